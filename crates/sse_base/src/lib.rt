@@ -1,0 +1,15 @@
+//! Supervisor software events: ids, instances, states, codes and attributes, and in `specs/` the
+//! written machine of events that every crate above is proved against.
+#![tactic(auto)]
+
+mod arrows;
+mod codes;
+mod contexts;
+mod events;
+mod ids;
+
+pub use arrows::{Move, State, next_state};
+pub use codes::{Reply, SbiCode};
+pub use contexts::Privilege;
+pub use events::{Event, EventDecl, Slot};
+pub use ids::{EventClass, EventId, Instance};
