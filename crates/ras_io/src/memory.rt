@@ -74,7 +74,7 @@ impl Source for MemSource {
             self.faults = self.faults.saturating_add(1);
             return Err(SourceFault);
         }
-        let left = &self.bytes[self.at..];
+        let (_, left) = self.bytes.as_slice().split_at(self.at);
         let count = self.most.min(buf.len()).min(left.len());
         buf[..count].copy_from_slice(&left[..count]);
         self.at += count;
