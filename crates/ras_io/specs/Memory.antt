@@ -1,7 +1,6 @@
 -- A source and a sink over memory, for tests. The rules are this project's own.
 use Rattle.std.specs.Prelude.{◌≡◌, ℕ, ◌+◌, min, Bool, not, ◌&&◌, nat_le, nat_eq, List, ◌++◌, length, take, drop, if◌then◌else◌}
 use Rattle.std.specs.List.{list_any}
-
 use Rattle.ras_io.specs.Causes.{one_more}
 
 -- a source: the bytes left, the most that one read gives, the numbers of the calls that fail,

@@ -4,13 +4,13 @@
 mod faults;
 mod memory;
 mod outside;
-
+mod standard;
 mod whole;
 
 pub use faults::{NoMemory, SinkFault, SourceFault};
 pub use memory::{MemSink, MemSource};
 pub use outside::{Sink, Source};
-
+pub use standard::{StdSink, StdSource};
 pub use whole::{ReadAllError, read_all};
 
 #[cfg(test)]

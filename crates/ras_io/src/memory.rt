@@ -28,8 +28,12 @@ impl Model for MemSource {
     ghost Value = { Supply };
 
     ghost view = { λ s. record {
-        left = drop s.at s.bytes.items; most = s.most; fails = s.fails.items;
-        calls = s.calls; faults = s.faults } };
+      left = drop s.at s.bytes.items;
+      most = s.most;
+      fails = s.fails.items;
+      calls = s.calls;
+      faults = s.faults;
+    } };
 
     ghost invariant = { λ s. (s.at ≤ length s.bytes.items) × (0 < s.most) };
 }
@@ -40,7 +44,12 @@ impl MemSource {
     pub fn new(bytes: Vec<u8>, most: usize, fails: Vec<u64>) -> MemSource
         requires { 0 < most }
         ensures { result ≡ record {
-            left = bytes.items; most = most; fails = fails.items; calls = 0; faults = 0 } }
+          left = bytes.items;
+          most = most;
+          fails = fails.items;
+          calls = 0;
+          faults = 0;
+        } }
     {
         MemSource {
             bytes,
@@ -99,8 +108,12 @@ impl Model for MemSink {
     ghost Value = { Store };
 
     ghost view = { λ s. record {
-        written = s.bytes.items; room = s.room; fails = s.fails.items;
-        calls = s.calls; faults = s.faults } };
+      written = s.bytes.items;
+      room = s.room;
+      fails = s.fails.items;
+      calls = s.calls;
+      faults = s.faults;
+    } };
 
     ghost invariant = { λ s. s.room ≤ vec_capacity s.bytes };
 }
@@ -111,7 +124,12 @@ impl MemSink {
     /// comes where no room was found.
     pub fn new(alloc: Global, room: usize, fails: Vec<u64>) -> Result<MemSink, NoMemory>
         ensures { IfOk result (λ s. s ≡ record {
-            written = []; room = room; fails = fails.items; calls = 0; faults = 0 }) }
+          written = [];
+          room = room;
+          fails = fails.items;
+          calls = 0;
+          faults = 0;
+        }) }
     {
         let bytes = Vec::with_capacity(alloc, room).map_err(|_| NoMemory)?;
         Ok(MemSink {

@@ -1,6 +1,5 @@
 //! Where bytes come from and where they go (the traits are this project's own).
 ghost use Rattle.std.specs.Prelude.{ℕ, List, Option};
-
 ghost use Rattle.std.specs.Io.{ReadsAtMost};
 ghost use Rattle.std.specs.Io.KnownBytes.{ReadConsumes};
 ghost use Rattle.ras_io.specs.Causes.{HasCause, Puts};

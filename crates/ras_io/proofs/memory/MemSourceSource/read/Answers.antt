@@ -12,6 +12,7 @@ returns-clause-bytes c =
     let copied : c.copy_from_slice.new.self ≡ take n left = grind (arith, common_steps) in
     let room : n ≤ length c.args.buf.now = omega arith in
     let all : length (c.copy_from_slice.new.self ++ drop n c.args.buf.now) ≡ length c.args.buf.now = grind (arith, common_steps) in
-    let count : n ≡ min (min c.self.inside.most (length c.args.buf.now)) (length left) = grind (arith, common_steps) in
-    (reads_front _ _ _ _ _ _ fits view copied,
-    λ none space. reads_end _ _ c.self.inside.most (length c.args.buf.now) _ _ view count c.self.invariant.1 (let e = all in omega arith) none)
+    let count : n ≡ min (min c.self.inside.most (length c.args.buf.now)) (length left) = grind (arith, common_steps) in (
+      reads_front _ _ _ _ _ _ fits view copied,
+      λ none space. reads_end _ _ c.self.inside.most (length c.args.buf.now) _ _ view count c.self.invariant.1 (let e = all in omega arith) none,
+    )
