@@ -1,0 +1,7 @@
+-- What reading a whole source says. The rules are this project's own.
+use Rattle.std.specs.Prelude.{◌≡◌, ℕ, ◌+◌, List, length, Option}
+use Rattle.std.specs.Io.KnownBytes.{Consumes}
+
+-- one byte more than so many was taken
+abbrev pub TakesOneTooMany : Option (List ℕ) → Option (List ℕ) → ℕ → Type 0
+TakesOneTooMany old new most = (bytes : List ℕ) × (length bytes ≡ most + 1) × Consumes old new bytes

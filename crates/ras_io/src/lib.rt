@@ -1,0 +1,17 @@
+//! Bytes in and bytes out, each with a count of the faults of the outside.
+#![tactic(auto)]
+
+mod faults;
+mod memory;
+mod outside;
+mod standard;
+mod whole;
+
+pub use faults::{NoMemory, SinkFault, SourceFault};
+pub use memory::{MemSink, MemSource};
+pub use outside::{Sink, Source};
+pub use standard::{StdSink, StdSource};
+pub use whole::{ReadAllError, read_all};
+
+#[cfg(test)]
+mod tests;

@@ -1,0 +1,58 @@
+//! A whole source, read to its end.
+ghost use Rattle.std.specs.Prelude.{◌≡◌, ℕ, ◌≤◌, length, IfOk, OnOk, IsErrOf};
+ghost use Rattle.std.specs.Io.KnownBytes.{Consumes, IsAtEnd};
+ghost use Rattle.ras_io.specs.Causes.{Rose};
+ghost use Rattle.ras_io.specs.Whole.{TakesOneTooMany};
+
+use crate::outside::Source;
+use std::alloc::Global;
+use thiserror::Error;
+
+/// Why a whole source wasn't read (the rules are this project's own).
+#[derive(Debug, Clone, Copy, PartialEq, Eq, Error)]
+pub enum ReadAllError {
+    /// The source failed.
+    #[error("the input failed")]
+    ReadFault,
+    /// More bytes came than were allowed.
+    #[error("the input is too long")]
+    TooLong,
+    /// No memory was found.
+    #[error("out of memory")]
+    NoMemory,
+}
+
+// the most that one call of `read` is asked for
+const PIECE: usize = 4096;
+
+/// Reads `src` to its end, at most `max` bytes. `ReadFault` comes only where the count of faults
+/// rose in this call. `TooLong` comes where more than `max` bytes came, and then `max` + 1 were
+/// taken. `NoMemory` comes where no room was found for them. Each turn but the last takes at least
+/// one byte.
+pub fn read_all<S: Source>(alloc: Global, src: &mut S, max: usize) -> Result<Vec<u8>, ReadAllError>
+    requires { max ≤ 50331648 }
+    ensures whole { IfOk result (λ v. Consumes (S.left src.old) (S.left src.new) v.items) }
+    ensures ended { OnOk result (IsAtEnd (S.left src.new)) }
+    ensures short { IfOk result (λ v. length v.items ≤ max) }
+    ensures kept { OnOk result (S.faults src.new ≡ S.faults src.old) }
+    ensures fault { IsErrOf result ReadAllError.ReadFault → Rose (S.faults src.old) (S.faults src.new) }
+    ensures long { IsErrOf result ReadAllError.TooLong → TakesOneTooMany (S.left src.old) (S.left src.new) max }
+    ensures long_kept { IsErrOf result ReadAllError.TooLong → S.faults src.new ≡ S.faults src.old }
+    ensures later { S.faults src.old ≤ S.faults src.new }
+{
+    let mut bytes = Vec::new(alloc);
+    let mut piece = [0u8; PIECE];
+    while bytes.len() <= max {
+        let room = PIECE.min(max + 1 - bytes.len());
+        let count = src
+            .read(&mut piece[..room])
+            .map_err(|_| ReadAllError::ReadFault)?;
+        if count == 0 {
+            return Ok(bytes);
+        }
+        bytes
+            .extend_from_slice(&piece[..count])
+            .map_err(|_| ReadAllError::NoMemory)?;
+    }
+    Err(ReadAllError::TooLong)
+}

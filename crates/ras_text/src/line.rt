@@ -1,0 +1,84 @@
+//! Lines that go to a sink, each in one write.
+ghost use Rattle.std.specs.Prelude.{◌≡◌, ◌+◌, ◌≤◌, ◌++◌, [], ◌∷◌, length, decimal};
+ghost use Rattle.std.specs.Fmt.{signed_decimal};
+ghost use Rattle.ras_io.specs.Causes.{HasCause, Puts};
+ghost use Rattle.ras_text.specs.Lines.{text_of, sink_of, Borrows, SameSink};
+
+use arrayvec::ArrayVec;
+use itoa::Buffer;
+use ras_io::{Sink, SinkFault};
+
+// the bytes of a line, and its newline
+const ROOM: usize = 513;
+
+/// A line under way, of at most 512 bytes, and the sink that it goes to. In clauses `text_of` is
+/// its text so far and `sink_of` the sink.
+#[derive(Drop)]
+pub struct Line<'a, K: Sink> {
+    sink: &'a mut K,
+    text: ArrayVec<u8, ROOM>,
+}
+
+impl<'a, K: Sink> Line<'a, K> {
+    /// An empty line that goes to `sink`.
+    pub fn new(sink: &'a mut K) -> Line<'a, K>
+        ensures empty { text_of result ≡ [] }
+        ensures sink { sink_of result ≡ sink.old }
+        ensures same_reference { Borrows result sink.entry }
+    {
+        Line {
+            sink,
+            text: ArrayVec::new(),
+        }
+    }
+
+    /// Writes the line and its newline in one write, and starts an empty one, also after a fault.
+    /// `SinkFault` comes only where the sink's count of faults rose in this call.
+    pub fn end(&mut self) -> Result<(), SinkFault>
+        requires { length (text_of self.old) ≤ 512 }
+        ensures empty { text_of self.new ≡ [] }
+        ensures bytes { Puts (K.written (sink_of self.old)) (K.written (sink_of self.new)) result
+            (text_of self.old ++ 10 ∷ []) }
+        ensures cause { HasCause (K.faults (sink_of self.old)) (K.faults (sink_of self.new)) result }
+        ensures same_reference { SameSink self.new self.old }
+    {
+        self.text.push(b'\n');
+        let result = self.sink.write(self.text.as_slice());
+        self.text.clear();
+        result
+    }
+}
+
+/// Appends a word to the line under way, which has to have room for it.
+pub fn put_word<K: Sink>(line: &mut Line<'_, K>, word: &[u8])
+    requires { length (text_of line.old) + length word.now ≤ 512 }
+    ensures text { text_of line.new ≡ text_of line.old ++ word.now }
+    ensures sink { sink_of line.new ≡ sink_of line.old }
+    ensures same_reference { SameSink line.new line.old }
+{
+    for byte in word {
+        line.text.push(*byte);
+    }
+}
+
+/// Appends a number in decimal to the line under way, which has to have room for 20 bytes.
+pub fn put_dec<K: Sink>(line: &mut Line<'_, K>, n: u64)
+    requires { length (text_of line.old) + 20 ≤ 512 }
+    ensures text { text_of line.new ≡ text_of line.old ++ decimal n }
+    ensures room { length (text_of line.new) ≤ length (text_of line.old) + 20 }
+    ensures sink { sink_of line.new ≡ sink_of line.old }
+    ensures same_reference { SameSink line.new line.old }
+{
+    put_word(line, Buffer::new().format(n).as_bytes());
+}
+
+/// Appends a signed number in decimal to the line under way, which has to have room for 20 bytes.
+pub fn put_signed<K: Sink>(line: &mut Line<'_, K>, n: i64)
+    requires { length (text_of line.old) + 20 ≤ 512 }
+    ensures text { text_of line.new ≡ text_of line.old ++ signed_decimal n }
+    ensures room { length (text_of line.new) ≤ length (text_of line.old) + 20 }
+    ensures sink { sink_of line.new ≡ sink_of line.old }
+    ensures same_reference { SameSink line.new line.old }
+{
+    put_word(line, Buffer::new().format(n).as_bytes());
+}
