@@ -288,7 +288,7 @@ call h eid fid args stacks r = if not (eid == extension) then refuse NotSupporte
 abbrev pub delivered : ℕ → Instance → Reach → Reach
 delivered h at r =
     record {
-      stack = deliver at (event at r.events).entry h (event at r.events).arg r.stack;
+      stack = deliver at (event at r.events).entry (event at r.events).arg h r.stack;
       events = set_running at r.events;
       masks = r.masks;
       memory = r.memory;

@@ -2,6 +2,7 @@
 pub mod Ids
 pub mod Arrows
 pub mod Codes
+pub mod Attributes
 pub mod Events
 pub mod Contexts
 pub mod Words

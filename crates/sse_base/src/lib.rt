@@ -3,12 +3,14 @@
 #![tactic(auto)]
 
 mod arrows;
+mod attributes;
 mod codes;
 mod contexts;
 mod events;
 mod ids;
 
 pub use arrows::{Move, State, next_state};
+pub use attributes::{AttrRange, RangeFault, attr_range};
 pub use codes::{Reply, SbiCode};
 pub use contexts::Privilege;
 pub use events::{Event, EventDecl, Slot};
