@@ -1,0 +1,3 @@
+pub mod Places
+pub mod Setters
+mod Rows
