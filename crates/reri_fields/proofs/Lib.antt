@@ -1,0 +1,4 @@
+pub mod Places
+pub mod Setters
+mod Rows
+mod WorkedRecords
