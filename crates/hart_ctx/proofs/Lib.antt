@@ -1,0 +1,2 @@
+-- What the view of a hart keeps.
+pub mod Frames

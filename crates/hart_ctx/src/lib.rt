@@ -1,0 +1,12 @@
+//! What a hart runs: its registers, the handlers that interrupt one another on it, and the board's memory.
+#![tactic(auto)]
+
+mod contexts;
+mod kept;
+mod memory;
+mod regs;
+
+pub use contexts::Contexts;
+pub use memory::Memory;
+pub use regs::{Regs, Saved, enter, resume};
+pub use sse_base::Privilege;
