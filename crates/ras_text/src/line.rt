@@ -2,8 +2,10 @@
 ghost use Rattle.std.specs.Prelude.{◌≡◌, ◌+◌, ◌≤◌, ◌++◌, [], ◌∷◌, length, decimal};
 ghost use Rattle.std.specs.Fmt.{signed_decimal};
 ghost use Rattle.ras_io.specs.Causes.{HasCause, Puts};
+ghost use Rattle.ras_text.specs.Numbers.{hexadecimal};
 ghost use Rattle.ras_text.specs.Lines.{text_of, sink_of, Borrows, SameSink};
 
+use crate::hex::{DIGITS, write_digits};
 use arrayvec::ArrayVec;
 use itoa::Buffer;
 use ras_io::{Sink, SinkFault};
@@ -81,4 +83,20 @@ pub fn put_signed<K: Sink>(line: &mut Line<'_, K>, n: i64)
     ensures same_reference { SameSink line.new line.old }
 {
     put_word(line, Buffer::new().format(n).as_bytes());
+}
+
+/// Appends a number in hexadecimal to the line under way, as `0x` and lower-case digits with no
+/// leading zero. The line has to have room for 18 bytes.
+pub fn put_hex<K: Sink>(line: &mut Line<'_, K>, n: u64)
+    requires { length (text_of line.old) + 18 ≤ 512 }
+    ensures text { text_of line.new ≡ text_of line.old ++ hexadecimal n }
+    ensures room { length (text_of line.new) ≤ length (text_of line.old) + 18 }
+    ensures sink { sink_of line.new ≡ sink_of line.old }
+    ensures same_reference { SameSink line.new line.old }
+{
+    let mut digits = [0; DIGITS];
+    let start = write_digits(n, &mut digits);
+    let (_, spelled) = digits.as_slice().split_at(start);
+    put_word(line, b"0x");
+    put_word(line, spelled);
 }

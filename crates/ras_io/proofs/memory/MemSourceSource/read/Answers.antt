@@ -1,4 +1,4 @@
-use Rattle.std.proofs.Common.{rules, ◌≡◌, ℕ, ◌+◌, ◌≤◌, ◌<◌, [], List, length, take, drop, ◌++◌, arith, min, ap, ◌∙◌}
+use Rattle.std.proofs.Common.{◌≡◌, ◌≤◌, length, take, drop, ◌++◌, arith, min, ap}
 use Rattle.std.proofs.lemmas.Grind.{common_steps}
 use Rattle.ras_io.proofs.Copied.{reads_front, reads_end}
 use Rattle.ras_io.proofs.memory.MemSourceSource.read.Goals as goal

@@ -1,0 +1,3 @@
+mod Glyphs
+mod Splits
+mod Values

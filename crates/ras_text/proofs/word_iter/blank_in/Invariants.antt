@@ -1,0 +1,6 @@
+use Rattle.std.proofs.Common.{◌≡◌, ℕ, ◌<◌, false, slice_index}
+use Rattle.ras_text.specs.Pieces.{is_blank}
+use Rattle.ras_text.proofs.word_iter.blank_in.Given as goal
+
+abbrev pub invariant-loop-i : goal.invariant-loop-i
+invariant-loop-i l = (k : ℕ) → k < l.i → is_blank (slice_index l.text k) ≡ false
