@@ -1,7 +1,6 @@
 -- A record that shows a list of errors shows the list with one more error once that error is entered into its registers.
-use Rattle.std.proofs.Common.{◌≡◌, ℕ, zero, suc, ◌/◌, ◌+◌, ◌*◌, ◌%◌, ◌^◌, ◌<◌, ◌≤◌, max, Bool, true, false, cond, ◌==◌, nat_lt, ◌||◌, List, [], ◌∷◌, ◌++◌, Option, Some, None, ◌⊎◌, refl, sym, ap, ◌∙◌, subst, inl, inr, arith}
+use Rattle.std.proofs.Common.{◌≡◌, ℕ, zero, suc, ◌/◌, ◌+◌, ◌*◌, ◌^◌, ◌<◌, ◌≤◌, Bool, true, false, cond, ◌==◌, nat_lt, ◌||◌, List, [], ◌∷◌, ◌++◌, Some, None, ◌⊎◌, refl, sym, ap, ◌∙◌, subst, inl, inr, arith}
 use Rattle.std.specs.List.{find}
-use Rattle.std.specs.Option.{option_map_or}
 use Rattle.std.proofs.lemmas.Bool.{cases_lt, cases_order, cases_Bool, true≢false, eq-eqb, ne_eqb, cond-true, cond-false, lt-ltb, le-ltb}
 use Rattle.std.proofs.lemmas.Bool.Decides.{nat_tests}
 use Rattle.std.proofs.lemmas.Nat.{mod_below}
@@ -12,7 +11,7 @@ use Rattle.reri_fields.specs.declared.report.RecordCopy.{RecordCopy}
 use Rattle.reri_fields.specs.Fields.{StatusFields, status_fields, bits, severity_number, greatest}
 use Rattle.reri_fields.specs.Records.{Error, Shows, severity_of, rank_of, greatest_of, is_any, shown, is_multiple, has_severity, came_at, is_shown_after, number_in}
 use Rattle.reri_log.specs.Update.{top, rank, wins, multiple_after, with_severity, marked, filled, entered}
-use Rattle.reri_log.proofs.Errors.{shown_alone, shown_greater, shown_not_greater, shown_some, shown_none, multiple_alone, multiple_greater, multiple_equal, multiple_less, has_severity-push, has_greatest, has_none_above, greatest_le, found_le, found_before, find_attained, StepsBelow}
+use Rattle.reri_log.proofs.Errors.{shown_alone, shown_greater, shown_not_greater, shown_some, multiple_alone, multiple_greater, multiple_equal, multiple_less, has_severity-push, has_greatest, has_none_above, greatest_le, found_le, found_before, find_attained, StepsBelow}
 
 -- ---- The greatest severity and rank, told from the fields ----
 
@@ -112,17 +111,17 @@ pub who_wins : (errors : List Error) (e : Error) (copy : RecordCopy) → Shows e
 who_wins errors e copy s below =
     let fields = status_fields copy.status in
     elim (cases_Bool (is_any errors)) as (λ _. Won errors e fields ⊎ Lost errors e fields) [
-      inl any ↦
-        let t = top_some errors copy s any in
-        let r = rank_is errors copy t.0 s any t.2 in
-        let w : wins fields e.report ≡ nat_lt (greatest_of rank_of errors) (rank_of e) = wins_some fields e.report t.0 t.1 ∙ ap (λ n. nat_lt n (rank e.report.severity e.report.priority)) r ∙ ap (nat_lt (greatest_of rank_of errors)) (rank_here e) in
-        elim (cases_lt (greatest_of rank_of errors) (rank_of e)) as (λ _. Won errors e fields ⊎ Lost errors e fields) [
-          inl less ↦ inl (won errors e fields (w ∙ lt-ltb _ _ less) (shown_greater errors e less))
-        | inr more ↦
-            let same = shown_not_greater errors e any more in
-            inr (record { wins_is = w ∙ le-ltb _ _ more; any = any; shown_is = same; after = lost_after errors e below any same })
-        ]
-    | inr none ↦ inl (won errors e fields (wins_none fields e.report (top_none errors copy s none)) (shown_in_empty errors e none))
+      | inl any ↦
+          let t = top_some errors copy s any in
+          let r = rank_is errors copy t.0 s any t.2 in
+          let w : wins fields e.report ≡ nat_lt (greatest_of rank_of errors) (rank_of e) = wins_some fields e.report t.0 t.1 ∙ ap (λ n. nat_lt n (rank e.report.severity e.report.priority)) r ∙ ap (nat_lt (greatest_of rank_of errors)) (rank_here e) in
+          elim (cases_lt (greatest_of rank_of errors) (rank_of e)) as (λ _. Won errors e fields ⊎ Lost errors e fields) [
+            | inl less ↦ inl (won errors e fields (w ∙ lt-ltb _ _ less) (shown_greater errors e less))
+            | inr more ↦
+                let same = shown_not_greater errors e any more in
+                inr (record { wins_is = w ∙ le-ltb _ _ more; any = any; shown_is = same; after = lost_after errors e below any same })
+          ]
+      | inr none ↦ inl (won errors e fields (wins_none fields e.report (top_none errors copy s none)) (shown_in_empty errors e none))
     ]
 
 -- ---- Multiple occurrence ----
@@ -149,16 +148,16 @@ multiple_is errors e copy s =
     let fields = status_fields copy.status in
     let g = greatest_of severity_of errors in
     elim (cases_Bool (is_any errors)) as (λ _. is_multiple (errors ++ e ∷ []) ≡ multiple_after fields e.report.severity) [
-      inl any ↦
-        let t = top_some errors copy s any in
-        let m : multiple_after fields e.report.severity ≡ cond (nat_lt g (severity_of e)) false (cond (g == severity_of e) true fields.multiple) = multiple_some fields e.report.severity t.0 t.1 ∙ ap (λ n. cond (nat_lt n (severity_number e.report.severity)) false (cond (n == severity_number e.report.severity) true fields.multiple)) t.2 ∙ ap (λ n. cond (nat_lt g n) false (cond (g == n) true fields.multiple)) (severity_here e) in
-        elim (cases_order g (severity_of e)) as (λ _. is_multiple (errors ++ e ∷ []) ≡ multiple_after fields e.report.severity) [
-          inl equal ↦ multiple_equal errors e any equal ∙ sym (m ∙ cond-false _ _ _ (le-ltb g (severity_of e) (omega arith)) ∙ cond-true _ true fields.multiple (eq-eqb _ _ equal))
-        | inr (inl less) ↦ multiple_greater errors e less ∙ sym (m ∙ cond-true _ false _ (lt-ltb _ _ less))
-        | inr (inr more) ↦
-            multiple_less errors e more ∙ sym s.multiple ∙ sym (m ∙ cond-false _ _ _ (le-ltb g (severity_of e) (omega arith)) ∙ cond-false _ true fields.multiple (ne_eqb _ _ (λ q. omega arith)))
-        ]
-    | inr none ↦ multiple_in_empty errors e none ∙ sym (multiple_none fields e.report.severity (top_none errors copy s none))
+      | inl any ↦
+          let t = top_some errors copy s any in
+          let m : multiple_after fields e.report.severity ≡ cond (nat_lt g (severity_of e)) false (cond (g == severity_of e) true fields.multiple) = multiple_some fields e.report.severity t.0 t.1 ∙ ap (λ n. cond (nat_lt n (severity_number e.report.severity)) false (cond (n == severity_number e.report.severity) true fields.multiple)) t.2 ∙ ap (λ n. cond (nat_lt g n) false (cond (g == n) true fields.multiple)) (severity_here e) in
+          elim (cases_order g (severity_of e)) as (λ _. is_multiple (errors ++ e ∷ []) ≡ multiple_after fields e.report.severity) [
+            | inl equal ↦ multiple_equal errors e any equal ∙ sym (m ∙ cond-false _ _ _ (le-ltb g (severity_of e) (omega arith)) ∙ cond-true _ true fields.multiple (eq-eqb _ _ equal))
+            | inr (inl less) ↦ multiple_greater errors e less ∙ sym (m ∙ cond-true _ false _ (lt-ltb _ _ less))
+            | inr (inr more) ↦
+                multiple_less errors e more ∙ sym s.multiple ∙ sym (m ∙ cond-false _ _ _ (le-ltb g (severity_of e) (omega arith)) ∙ cond-false _ true fields.multiple (ne_eqb _ _ (λ q. omega arith)))
+          ]
+      | inr none ↦ multiple_in_empty errors e none ∙ sym (multiple_none fields e.report.severity (top_none errors copy s none))
     ]
 
 -- ---- The fields afterwards ----
@@ -197,21 +196,51 @@ pub record Enters (writes : Bool) (old : StatusFields) (report : Report) (new : 
   pub priority : new.priority ≡ cond writes report.priority old.priority
   pub code : new.code ≡ cond writes report.code old.code
   pub in_progress : new.in_progress ≡ cond writes false old.in_progress
-  pub count : new.count ≡ old.count
-  pub overflow : new.overflow ≡ old.overflow
 
 enters_if : (writes : Bool) (old : StatusFields) (report : Report) → Enters writes old report (cond writes (filled (marked old report.severity) report) (marked old report.severity))
 unfolding marked filled
 enters_if true old report =
     let m = sets_bit report.severity old in
-    record { ce = m.ce; ued = m.ued; uec = m.uec; multiple = refl; valid = refl; priority = refl; code = refl; in_progress = refl; count = m.count; overflow = m.overflow }
+    record { ce = m.ce; ued = m.ued; uec = m.uec; multiple = refl; valid = refl; priority = refl; code = refl; in_progress = refl }
 enters_if false old report =
     let m = sets_bit report.severity old in
-    record { ce = m.ce; ued = m.ued; uec = m.uec; multiple = refl; valid = m.valid; priority = m.priority; code = m.code; in_progress = m.in_progress; count = m.count; overflow = m.overflow }
+    record { ce = m.ce; ued = m.ued; uec = m.uec; multiple = refl; valid = m.valid; priority = m.priority; code = m.code; in_progress = m.in_progress }
 
 pub enters : (old : StatusFields) (report : Report) → Enters (wins old report) old report (entered old report)
 unfolding entered
 enters old report = enters_if (wins old report) old report
+
+count_if : (writes : Bool) (old : StatusFields) (report : Report) → (cond writes (filled (marked old report.severity) report) (marked old report.severity)).count ≡ old.count
+unfolding marked filled
+count_if true old report = (sets_bit report.severity old).count
+count_if false old report = (sets_bit report.severity old).count
+
+overflow_if : (writes : Bool) (old : StatusFields) (report : Report) → (cond writes (filled (marked old report.severity) report) (marked old report.severity)).overflow ≡ old.overflow
+unfolding marked filled
+overflow_if true old report = (sets_bit report.severity old).overflow
+overflow_if false old report = (sets_bit report.severity old).overflow
+
+pub entered-count : (old : StatusFields) (report : Report) → (entered old report).count ≡ old.count
+unfolding entered
+entered-count old report = count_if (wins old report) old report
+
+pub entered-overflow : (old : StatusFields) (report : Report) → (entered old report).overflow ≡ old.overflow
+unfolding entered
+entered-overflow old report = overflow_if (wins old report) old report
+
+-- entering an error does not look at the count
+enters_past_count : (old : StatusFields) (n : ℕ) (v : Bool) (writes : Bool) (report : Report) (new : StatusFields) → Enters writes (record old { count = n; overflow = v }) report new → Enters writes old report new
+unfolding multiple_after top greatest
+enters_past_count old n v writes report new e =
+    record { ce = e.ce; ued = e.ued; uec = e.uec; multiple = e.multiple; valid = e.valid; priority = e.priority; code = e.code; in_progress = e.in_progress }
+
+pub wins_past_count : (old : StatusFields) (n : ℕ) (v : Bool) (report : Report) → wins (record old { count = n; overflow = v }) report ≡ wins old report
+unfolding wins top greatest
+wins_past_count old n v report = refl
+
+pub enters_counted : (old : StatusFields) (n : ℕ) (v : Bool) (report : Report) → Enters (wins old report) old report (entered (record old { count = n; overflow = v }) report)
+enters_counted old n v report =
+    enters_past_count old n v (wins old report) report _ (subst (λ w. Enters w (record old { count = n; overflow = v }) report (entered (record old { count = n; overflow = v }) report)) (wins_past_count old n v report) (enters (record old { count = n; overflow = v }) report))
 
 -- ---- The registers afterwards ----
 
@@ -232,45 +261,45 @@ number_won number errors e h = sym (ap (number_in number) h)
 pub shows_entered : (errors : List Error) (e : Error) (old new : RecordCopy) (writes : Bool) → StepsBelow e.step errors → Shows errors old → writes ≡ wins (status_fields old.status) e.report → Enters writes (status_fields old.status) e.report (status_fields new.status) → new.address ≡ cond writes e.report.address old.address → new.info ≡ cond writes e.report.info old.info → new.supplement ≡ cond writes e.report.supplement old.supplement → new.time ≡ cond writes e.report.time old.time → Shows (errors ++ e ∷ []) new
 shows_entered errors e old new true below s w n address info supplement time =
     elim (who_wins errors e old s below) as (λ _. Shows (errors ++ e ∷ []) new) [
-      inl r ↦
-        record {
-          valid = n.valid ∙ sym (is_any-push errors e);
-          ce = has_after 0 errors e _ _ s.ce n.ce;
-          ued = has_after 1 errors e _ _ s.ued n.ued;
-          uec = has_after 2 errors e _ _ s.uec n.uec;
-          multiple = n.multiple ∙ sym (multiple_is errors e old s);
-          priority = n.priority ∙ number_won (λ x. x.priority) errors e r.shown_is;
-          code = n.code ∙ number_won (λ x. x.code) errors e r.shown_is;
-          address = address ∙ number_won (λ x. x.address) errors e r.shown_is;
-          info = info ∙ number_won (λ x. x.info) errors e r.shown_is;
-          supplement = supplement ∙ number_won (λ x. x.supplement) errors e r.shown_is;
-          time = time ∙ number_won (λ x. x.time) errors e r.shown_is;
-        }
-    | inr r ↦ absurd (true≢false (w ∙ r.wins_is))
+      | inl r ↦
+          record {
+            valid = n.valid ∙ sym (is_any-push errors e);
+            ce = has_after 0 errors e _ _ s.ce n.ce;
+            ued = has_after 1 errors e _ _ s.ued n.ued;
+            uec = has_after 2 errors e _ _ s.uec n.uec;
+            multiple = n.multiple ∙ sym (multiple_is errors e old s);
+            priority = n.priority ∙ number_won (λ x. x.priority) errors e r.shown_is;
+            code = n.code ∙ number_won (λ x. x.code) errors e r.shown_is;
+            address = address ∙ number_won (λ x. x.address) errors e r.shown_is;
+            info = info ∙ number_won (λ x. x.info) errors e r.shown_is;
+            supplement = supplement ∙ number_won (λ x. x.supplement) errors e r.shown_is;
+            time = time ∙ number_won (λ x. x.time) errors e r.shown_is;
+          }
+      | inr r ↦ absurd (true≢false (w ∙ r.wins_is))
     ]
 shows_entered errors e old new false below s w n address info supplement time =
     elim (who_wins errors e old s below) as (λ _. Shows (errors ++ e ∷ []) new) [
-      inl r ↦ absurd (true≢false (sym r.wins_is ∙ sym w))
-    | inr r ↦
-        record {
-          valid = n.valid ∙ s.valid ∙ r.any ∙ sym (is_any-push errors e);
-          ce = has_after 0 errors e _ _ s.ce n.ce;
-          ued = has_after 1 errors e _ _ s.ued n.ued;
-          uec = has_after 2 errors e _ _ s.uec n.uec;
-          multiple = n.multiple ∙ sym (multiple_is errors e old s);
-          priority = n.priority ∙ s.priority ∙ sym (ap (number_in (λ x. x.priority)) r.shown_is);
-          code = n.code ∙ s.code ∙ sym (ap (number_in (λ x. x.code)) r.shown_is);
-          address = address ∙ s.address ∙ sym (ap (number_in (λ x. x.address)) r.shown_is);
-          info = info ∙ s.info ∙ sym (ap (number_in (λ x. x.info)) r.shown_is);
-          supplement = supplement ∙ s.supplement ∙ sym (ap (number_in (λ x. x.supplement)) r.shown_is);
-          time = time ∙ s.time ∙ sym (ap (number_in (λ x. x.time)) r.shown_is);
-        }
+      | inl r ↦ absurd (true≢false (sym r.wins_is ∙ sym w))
+      | inr r ↦
+          record {
+            valid = n.valid ∙ s.valid ∙ r.any ∙ sym (is_any-push errors e);
+            ce = has_after 0 errors e _ _ s.ce n.ce;
+            ued = has_after 1 errors e _ _ s.ued n.ued;
+            uec = has_after 2 errors e _ _ s.uec n.uec;
+            multiple = n.multiple ∙ sym (multiple_is errors e old s);
+            priority = n.priority ∙ s.priority ∙ sym (ap (number_in (λ x. x.priority)) r.shown_is);
+            code = n.code ∙ s.code ∙ sym (ap (number_in (λ x. x.code)) r.shown_is);
+            address = address ∙ s.address ∙ sym (ap (number_in (λ x. x.address)) r.shown_is);
+            info = info ∙ s.info ∙ sym (ap (number_in (λ x. x.info)) r.shown_is);
+            supplement = supplement ∙ s.supplement ∙ sym (ap (number_in (λ x. x.supplement)) r.shown_is);
+            time = time ∙ s.time ∙ sym (ap (number_in (λ x. x.time)) r.shown_is);
+          }
     ]
 
 -- whether the error is shown afterwards is what the fields told
 pub after_is : (errors : List Error) (e : Error) (copy : RecordCopy) → Shows errors copy → StepsBelow e.step errors → is_shown_after errors e ≡ wins (status_fields copy.status) e.report
 after_is errors e copy s below =
     elim (who_wins errors e copy s below) as (λ _. is_shown_after errors e ≡ wins (status_fields copy.status) e.report) [
-      inl r ↦ r.after ∙ sym r.wins_is
-    | inr r ↦ r.after ∙ sym r.wins_is
+      | inl r ↦ r.after ∙ sym r.wins_is
+      | inr r ↦ r.after ∙ sym r.wins_is
     ]

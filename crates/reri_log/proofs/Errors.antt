@@ -1,18 +1,17 @@
 -- Lists of errors: what is greatest, shown and counted in them, also once an error is added at the end.
-use Rattle.std.proofs.Common.{◌≡◌, ℕ, ◌+◌, ◌*◌, ◌<◌, ◌≤◌, max, Bool, true, false, cond, eqb, ltb, ◌==◌, nat_lt, ◌||◌, List, [], ◌∷◌, ◌++◌, Option, Some, None, ◌⊎◌, refl, sym, ap, ◌∙◌, subst, inl, inr, arith}
-use Rattle.std.specs.List.{find, count_by, sum_by}
-use Rattle.std.specs.Option.{option_or, is_some}
+use Rattle.std.proofs.Common.{◌≡◌, ℕ, ◌+◌, ◌<◌, ◌≤◌, max, Bool, true, false, cond, eqb, ◌==◌, nat_lt, ◌||◌, List, [], ◌∷◌, ◌++◌, Some, None, refl, sym, ap, ◌∙◌, subst, inl, inr, arith}
+use Rattle.std.specs.List.{find, count_by}
+use Rattle.std.specs.Option.{option_or}
 use Rattle.std.proofs.Math.Nat.{le-max_left, le-max_right, max-le}
-use Rattle.std.proofs.lemmas.Bool.{cases_lt, cases_eq, cases_order, cases_Bool, eq-eqb, ne_eqb, eqb-true, eqb-false, cond-true, cond-false, lt-ltb, le-ltb, or_from, or_left, or_right}
+use Rattle.std.proofs.lemmas.Bool.{cases_lt, cases_Bool, eq-eqb, cond-true, cond-false, lt-ltb, or_from, or_left, or_right}
 use Rattle.std.proofs.lemmas.Bool.Decides.{nat_tests}
 use Rattle.std.proofs.lemmas.List.Folds.{find-append}
 use Rattle.std.proofs.lemmas.Option.{none-some, same_Some}
 use Rattle.std.proofs.lemmas.List.Sums.{sum_by-cons, sum_by_push}
 use Rattle.reri_fields.specs.declared.severity.Severity.{Severity}
 use Rattle.reri_fields.specs.declared.severity.Severity.TheVariants.{Ce, Ued, Uec}
-use Rattle.reri_fields.specs.declared.report.Report.{Report}
 use Rattle.reri_fields.specs.Fields.{severity_number}
-use Rattle.reri_fields.specs.Records.{Error, severity_of, rank_of, greatest_of, is_any, shown, is_multiple, has_severity, came_at, is_shown_after}
+use Rattle.reri_fields.specs.Records.{Error, severity_of, rank_of, greatest_of, is_any, shown, is_multiple, has_severity}
 
 count_yes : (b : Bool) → b ≡ true → ◌≡◌ {A = ℕ} (cond b 1 0) 1
 count_yes b h = rw h refl
@@ -49,20 +48,20 @@ pub find_passes : (p : Error → Bool) (xs : List Error) (x : Error) → find p 
 find_passes p [] x h = cc
 find_passes p (y ∷ ys) x h =
     elim (cases_Bool (p y)) as (λ _. p x ≡ true) [
-      inl yes_here ↦
-        let same : Some y ≡ Some x = sym (cond-true _ (Some y) (find p ys) yes_here) ∙ h in
-        let is : y ≡ x = cc in
-        rw is at yes_here
-    | inr not_here ↦ find_passes p ys x (sym (cond-false _ (Some y) (find p ys) not_here) ∙ h)
+      | inl yes_here ↦
+          let same : Some y ≡ Some x = sym (cond-true _ (Some y) (find p ys) yes_here) ∙ h in
+          let is : y ≡ x = cc in
+          rw is at yes_here
+      | inr not_here ↦ find_passes p ys x (sym (cond-false _ (Some y) (find p ys) not_here) ∙ h)
     ]
 
 find_counts : (p : Error → Bool) (xs : List Error) (x : Error) → find p xs ≡ Some x → 0 < count_by p xs
 find_counts p [] x h = absurd (none-some x h)
 find_counts p (y ∷ ys) x h =
     elim (cases_Bool (p y)) as (λ _. 0 < count_by p (y ∷ ys)) [
-      inl yes_here ↦ rw (sum_by-cons (λ z. cond (p z) 1 0) y ys) (rw yes_here (omega arith))
-    | inr not_here ↦
-        rw (sum_by-cons (λ z. cond (p z) 1 0) y ys) (omega (arith, find_counts p ys x (sym (cond-false _ (Some y) (find p ys) not_here) ∙ h)))
+      | inl yes_here ↦ rw (sum_by-cons (λ z. cond (p z) 1 0) y ys) (rw yes_here (omega arith))
+      | inr not_here ↦
+          rw (sum_by-cons (λ z. cond (p z) 1 0) y ys) (omega (arith, find_counts p ys x (sym (cond-false _ (Some y) (find p ys) not_here) ∙ h)))
     ]
 
 -- where the list has an error, some error has the greatest number, and `find` gives it
@@ -76,14 +75,14 @@ find_attained f (x ∷ []) h =
 find_attained f (x ∷ y ∷ ys) h =
     let n = greatest_of f (y ∷ ys) in
     elim (cases_lt (f x) n) as (λ _. (z : Error) × (find (λ w. f w == max (f x) n) (x ∷ y ∷ ys) ≡ Some z) × (f z ≡ max (f x) n)) [
-      inl less ↦
-        let top : max (f x) n ≡ n = grind arith in
-        let differ : eqb (f x) n ≡ false = grind (arith, nat_tests) in
-        let rest = find_attained f (y ∷ ys) refl in
-        subst (λ m. (z : Error) × (find (λ w. f w == m) (x ∷ y ∷ ys) ≡ Some z) × (f z ≡ m)) (sym top) (rest.0, cond-false _ (Some x) (find (λ w. f w == n) (y ∷ ys)) differ ∙ rest.1, rest.2)
-    | inr more ↦
-        let top : max (f x) n ≡ f x = grind arith in
-        subst (λ m. (z : Error) × (find (λ w. f w == m) (x ∷ y ∷ ys) ≡ Some z) × (f z ≡ m)) (sym top) (x, cond-true _ (Some x) (find (λ w. f w == f x) (y ∷ ys)) (eq-eqb (f x) (f x) refl), refl)
+      | inl less ↦
+          let top : max (f x) n ≡ n = grind arith in
+          let differ : eqb (f x) n ≡ false = grind (arith, nat_tests) in
+          let rest = find_attained f (y ∷ ys) refl in
+          subst (λ m. (z : Error) × (find (λ w. f w == m) (x ∷ y ∷ ys) ≡ Some z) × (f z ≡ m)) (sym top) (rest.0, cond-false _ (Some x) (find (λ w. f w == n) (y ∷ ys)) differ ∙ rest.1, rest.2)
+      | inr more ↦
+          let top : max (f x) n ≡ f x = grind arith in
+          subst (λ m. (z : Error) × (find (λ w. f w == m) (x ∷ y ∷ ys) ≡ Some z) × (f z ≡ m)) (sym top) (x, cond-true _ (Some x) (find (λ w. f w == f x) (y ∷ ys)) (eq-eqb (f x) (f x) refl), refl)
     ]
 
 pub count_attained : (f : Error → ℕ) (xs : List Error) → is_any xs ≡ true → 0 < count_by (λ y. f y == greatest_of f xs) xs
@@ -175,8 +174,8 @@ unfolding has_severity
 found_has s [] x h = absurd (none-some x h)
 found_has s (y ∷ ys) x h =
     elim (cases_Bool (severity_of y == s)) as (λ _. (severity_of y == s || has_severity s ys) ≡ true) [
-      inl yes_here ↦ or_left _ _ yes_here
-    | inr not_here ↦ or_right _ _ (found_has s ys x (sym (cond-false _ (Some y) (find (λ z. severity_of z == s) ys) not_here) ∙ h))
+      | inl yes_here ↦ or_left _ _ yes_here
+      | inr not_here ↦ or_right _ _ (found_has s ys x (sym (cond-false _ (Some y) (find (λ z. severity_of z == s) ys) not_here) ∙ h))
     ]
 
 pub has_greatest : (xs : List Error) → is_any xs ≡ true → has_severity (greatest_of severity_of xs) xs ≡ true
@@ -213,12 +212,12 @@ unfolding greatest_of
 found_le f p [] x h = absurd (none-some x h)
 found_le f p (y ∷ ys) x h =
     elim (cases_Bool (p y)) as (λ _. f x ≤ max (f y) (greatest_of f ys)) [
-      inl yes_here ↦
-        let same : y ≡ x = same_Some y x (sym (cond-true _ (Some y) (find p ys) yes_here) ∙ h) in
-        rw (← same) (le-max_left (f y) (greatest_of f ys))
-    | inr not_here ↦
-        let rest = found_le f p ys x (sym (cond-false _ (Some y) (find p ys) not_here) ∙ h) in
-        omega (arith, le-max_right (f y) (greatest_of f ys), rest)
+      | inl yes_here ↦
+          let same : y ≡ x = same_Some y x (sym (cond-true _ (Some y) (find p ys) yes_here) ∙ h) in
+          rw (← same) (le-max_left (f y) (greatest_of f ys))
+      | inr not_here ↦
+          let rest = found_le f p ys x (sym (cond-false _ (Some y) (find p ys) not_here) ∙ h) in
+          omega (arith, le-max_right (f y) (greatest_of f ys), rest)
     ]
 
 -- ---- Steps ----
@@ -236,8 +235,8 @@ pub found_before : (step : ℕ) (p : Error → Bool) (xs : List Error) (x : Erro
 found_before step p [] x b h = absurd (none-some x h)
 found_before step p (y ∷ ys) x b h =
     elim (cases_Bool (p y)) as (λ _. x.step < step) [
-      inl yes_here ↦
-        let same : y ≡ x = same_Some y x (sym (cond-true _ (Some y) (find p ys) yes_here) ∙ h) in
-        rw (← same) b.0
-    | inr not_here ↦ found_before step p ys x b.1 (sym (cond-false _ (Some y) (find p ys) not_here) ∙ h)
+      | inl yes_here ↦
+          let same : y ≡ x = same_Some y x (sym (cond-true _ (Some y) (find p ys) yes_here) ∙ h) in
+          rw (← same) b.0
+      | inr not_here ↦ found_before step p ys x b.1 (sym (cond-false _ (Some y) (find p ys) not_here) ∙ h)
     ]

@@ -1,7 +1,6 @@
 -- Histories of a record with one event more.
-use Rattle.std.proofs.Common.{◌≡◌, ℕ, ◌+◌, ◌%◌, ◌<◌, Bool, true, false, cond, not, ◌&&◌, ◌==◌, List, [], ◌∷◌, ◌++◌, refl, inl, inr, sym, ap, ◌∙◌, arith}
-use Rattle.std.proofs.lemmas.Bool.{cases_Bool, true≢false, cond-true, cond-false}
-use Rattle.reri_fields.specs.Fields.{control_fields}
+use Rattle.std.proofs.Common.{◌≡◌, ℕ, ◌+◌, true, false, cond, not, ◌&&◌, List, [], ◌∷◌, ◌++◌, refl, inl, inr, sym, ap, ◌∙◌}
+use Rattle.std.proofs.lemmas.Bool.{cases_Bool, true≢false}
 use Rattle.reri_fields.specs.Records.{Error, Event, Origin, AllBefore, is_any, is_shown_after, is_counted, counted, is_logged, since, in_progress}
 use Rattle.reri_fields.specs.Records.Event.{Reported, Claimed, Invalidated}
 use Rattle.reri_log.proofs.Errors.{StepsBelow, StepsBelow-push}
@@ -37,14 +36,14 @@ since_before step origin [] h = tt
 since_before step origin (Reported e ∷ history) h =
     let rest = since_before step origin history h.1 in
     elim (is_logged origin history e.report) as (λ b. StepsBelow step (cond b (since origin history ++ e ∷ []) (since origin history))) [
-      true ↦ StepsBelow-push step (since origin history) e rest h.0
-    | false ↦ rest
+      | true ↦ StepsBelow-push step (since origin history) e rest h.0
+      | false ↦ rest
     ]
 since_before step origin (Claimed ∷ history) h = since_before step origin history h
 since_before step origin (Invalidated ∷ history) h =
     elim (in_progress origin history) as (λ b. StepsBelow step (cond b [] (since origin history))) [
-      true ↦ tt
-    | false ↦ since_before step origin history h
+      | true ↦ tt
+      | false ↦ since_before step origin history h
     ]
 
 is_any-push : (errors : List Error) (e : Error) → is_any (errors ++ e ∷ []) ≡ true
@@ -58,10 +57,10 @@ unfolding since in_progress
 not_claimed origin [] h = refl
 not_claimed origin (Reported e ∷ history) h =
     elim (cases_Bool (is_logged origin history e.report)) as (λ _. (in_progress origin history && not (is_logged origin history e.report && is_shown_after (since origin history) e)) ≡ false) [
-      inl logged ↦ absurd (true≢false (sym (is_any-push (since origin history) e) ∙ sym (ap is_any (since_logged origin history e logged)) ∙ h))
-    | inr unlogged ↦
-        let none : is_any (since origin history) ≡ false = sym (ap is_any (since_unlogged origin history e unlogged)) ∙ h in
-        rw (not_claimed origin history none) refl
+      | inl logged ↦ absurd (true≢false (sym (is_any-push (since origin history) e) ∙ sym (ap is_any (since_logged origin history e logged)) ∙ h))
+      | inr unlogged ↦
+          let none : is_any (since origin history) ≡ false = sym (ap is_any (since_unlogged origin history e unlogged)) ∙ h in
+          rw (not_claimed origin history none) refl
     ]
 not_claimed origin (Claimed ∷ history) h = h
 not_claimed origin (Invalidated ∷ history) h = refl

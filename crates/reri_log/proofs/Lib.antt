@@ -1,3 +1,4 @@
 pub mod Errors
 pub mod Entered
 pub mod Histories
+pub mod Logging

@@ -1,6 +1,6 @@
 -- What `log` writes into the registers. These definitions describe the code's update, for any registers; the rules that
 -- the update keeps stand in the record book, and `log` is proved to keep them for every record that has a history.
-use Rattle.std.specs.Prelude.{◌≡◌, ℕ, ◌+◌, ◌*◌, nat_lt, ◌==◌, Bool, true, false, ◌&&◌, if◌then◌else◌, Option, Some, None}
+use Rattle.std.specs.Prelude.{◌≡◌, ℕ, ◌+◌, ◌*◌, nat_lt, ◌==◌, Bool, true, false, ◌&&◌, if◌then◌else◌, Option, None}
 use Rattle.std.specs.Option.{option_map_or}
 use Rattle.reri_fields.specs.declared.severity.Severity.{Severity}
 use Rattle.reri_fields.specs.declared.severity.Severity.TheVariants.{Ce, Ued, Uec}
@@ -56,21 +56,21 @@ unfoldable pub count_after : ℕ → StatusFields → Report → StatusFields
 count_after control fields report =
     if is_counted control report
     then (if nat_lt fields.count 65535 then record fields { count = fields.count + 1 }
-      else record fields { count = 0; overflow = true })
+    else record fields { count = 0; overflow = true })
     else fields
 
 unfoldable pub answer_of : ℕ → StatusFields → Report → Logged
 answer_of control fields report =
     if (control_fields control).enable
     then (if stays_counted control fields report then Counted
-      else if wins fields report then Wrote (level_of (control_fields control) report.severity) else Kept)
+    else if wins fields report then Wrote (level_of (control_fields control) report.severity) else Kept)
     else Disabled
 
 unfoldable pub fields_after : ℕ → StatusFields → Report → StatusFields
 fields_after control fields report =
     if (control_fields control).enable
     then (if stays_counted control fields report then count_after control fields report
-      else entered (count_after control fields report) report)
+    else entered (count_after control fields report) report)
     else fields
 
 unfoldable pub is_written : Logged → Bool
@@ -78,6 +78,24 @@ is_written Disabled = false
 is_written Counted = false
 is_written (Wrote level) = true
 is_written Kept = false
+
+-- The registers after an error was counted, where the record counts it. `alone` says whether nothing more is to be done.
+pub record CountsUp (old : RecordCopy) (report : Report) (new : RecordCopy) (alone : Bool) : Type 0 where
+  pub answered : alone ≡ stays_counted old.control (status_fields old.status) report
+  pub status : status_fields new.status ≡ count_after old.control (status_fields old.status) report
+  pub others : status_spare new.status ≡ status_spare old.status
+  pub rest : new ≡ record old { status = new.status }
+
+-- the registers after an error was entered into them, and whether it wrote or was kept out
+pub record EntersInto (old : RecordCopy) (report : Report) (new : RecordCopy) (answer : Logged) : Type 0 where
+  pub answered : answer ≡ (if wins (status_fields old.status) report then Wrote (level_of (control_fields old.control) report.severity) else Kept)
+  pub control : new.control ≡ old.control
+  pub status : status_fields new.status ≡ entered (status_fields old.status) report
+  pub others : status_spare new.status ≡ status_spare old.status
+  pub address : new.address ≡ (if is_written answer then report.address else old.address)
+  pub info : new.info ≡ (if is_written answer then report.info else old.info)
+  pub supplement : new.supplement ≡ (if is_written answer then report.supplement else old.supplement)
+  pub time : new.time ≡ (if is_written answer then report.time else old.time)
 
 -- the registers after an error was logged into them, and what logging answered
 pub record Updates (old : RecordCopy) (report : Report) (new : RecordCopy) (answer : Logged) : Type 0 where
