@@ -2,3 +2,4 @@ pub mod Places
 pub mod Setters
 mod Rows
 mod WorkedRecords
+mod Blocks
