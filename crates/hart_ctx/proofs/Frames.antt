@@ -1,14 +1,16 @@
 -- What the view of a hart keeps of the values that its handlers keep.
-use Rattle.std.proofs.Common.{◌≡◌, ℕ, zero, suc, ◌+◌, ◌-◌, ◌<◌, ◌≤◌, ◌*◌, ◌/◌, ◌%◌, ◌==◌, List, [], ◌∷◌, ◌++◌, length, get_or, refl, ap, sym, ◌∙◌, arith, length-append}
+use Rattle.std.proofs.Common.{◌≡◌, ℕ, zero, suc, ◌+◌, ◌-◌, ◌<◌, ◌≤◌, ◌*◌, ◌/◌, ◌%◌, ◌==◌, Bool, true, false, List, [], ◌∷◌, ◌++◌, length, get_or, refl, ap, sym, ◌∙◌, arith, length-append}
+use Rattle.std.specs.Prelude.{Option, Some, None, slice_get}
 use Rattle.std.proofs.Math.ListN.{get_or-append}
 use Rattle.std.proofs.Math.Seq.{get_or-append_seam}
 use Rattle.std.proofs.lemmas.Option.{slice_get-get_or}
-use Rattle.std.specs.Prelude.{Some, slice_get}
 use Rattle.sse_base.specs.declared.ids.Instance.{Instance}
 use Rattle.sse_base.specs.Contexts.{Triple, Under, bit, privilege_bit, privilege_at, flags_of, below, with_below}
+use Rattle.hart_ctx.specs.declared.regs.Regs.{Regs}
 use Rattle.hart_ctx.specs.declared.regs.Saved.{Saved}
 use Rattle.hart_ctx.specs.declared.kept.Kept.{Kept}
-use Rattle.hart_ctx.specs.Levels.{triple_kept, frames_from, base_from, frame_of}
+use Rattle.hart_ctx.specs.Registers.{is_supervisor, regs_of, with_regs, triple_in}
+use Rattle.hart_ctx.specs.Levels.{triple_kept, frames_from, base_from, frame_of, stack_of}
 use Rattle.hart_ctx.specs.Running.{running_in, told_by}
 
 -- as many handlers as kept values
@@ -75,3 +77,15 @@ pub running_at : (t : Triple) (ks : List Kept) (k : ℕ) (x : Kept) → k < leng
 running_at t ks k x l h =
     rw (running_pairs t ks)
     (slice_get-get_or (pairs ks) k (pair_of x) (omega (arith, pairs_length ks)) ∙ ap Some (pair_at ks (length ks - 1 - k) k x (omega arith) h))
+
+-- The registers, and a change of them.
+
+supervisor_again : (b : Bool) → is_supervisor (privilege_at b) ≡ b
+supervisor_again true = refl
+supervisor_again false = refl
+
+pub regs_again : (r : Regs) (ks : List Kept) → regs_of (stack_of r ks) ≡ r
+regs_again r ks = rw (below_frames (triple_in r) ks) (rw (supervisor_again r.spp) refl)
+
+pub regs_set : (q r : Regs) (ks : List Kept) → with_regs r (stack_of q ks) ≡ stack_of r ks
+regs_set q r ks = rw (with_below_frames (triple_in q) (triple_in r) ks) refl

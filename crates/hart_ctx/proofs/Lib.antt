@@ -1,2 +1,3 @@
 -- What the view of a hart keeps.
 pub mod Frames
+pub mod Places

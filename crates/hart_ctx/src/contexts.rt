@@ -1,11 +1,14 @@
 //! The handlers of a hart, over its registers.
 
 ghost use Rattle.std.specs.Prelude.{◌≡◌, ◌<◌, ◌≤◌, length, slice_get};
-ghost use Rattle.sse_base.specs.Contexts.{fresh_stack, with_pc, deliver, complete, newest};
+ghost use Rattle.sse_base.specs.Contexts.{fresh_stack, with_pc, deliver, complete, newest, has_frame, interrupted};
+ghost use Rattle.sse_base.specs.Calls.{with_interrupted};
+ghost use Rattle.hart_ctx.specs.Registers.{regs_of, with_regs};
 ghost use Rattle.hart_ctx.specs.Running.{running_in};
 
 use crate::kept::Kept;
 use crate::regs::{Regs, Saved, enter, resume};
+use crate::scan::{place, word_of, write};
 use arrayvec::ArrayVec;
 use sse_base::{Instance, Privilege};
 use std::marker::Model;
@@ -117,5 +120,51 @@ impl Contexts {
     {
         let kept = &self.kept[self.kept.len() - 1 - k];
         (kept.at, kept.saved)
+    }
+    /// The registers.
+    #[tactic(auto, using(crate::proofs::Frames::regs_again))]
+    pub fn regs(&self) -> &Regs
+        ensures { result.now ≡ regs_of self.now }
+    {
+        &self.regs
+    }
+
+    /// Makes these the registers: what is live, and the triple that the running code sees in `sepc`, `spp`
+    /// and `spie`. All else stays.
+    #[tactic(auto, using(crate::proofs::Frames::regs_set))]
+    pub fn set_regs(&mut self, regs: &Regs)
+        ensures { self.new ≡ with_regs regs.now self.old }
+    {
+        self.regs = *regs;
+    }
+
+    /// Whether a handler of this event runs.
+    #[tactic(auto, using(crate::proofs::Places::has_kept))]
+    pub fn has(&self, at: Instance) -> bool
+        ensures { result ≡ has_frame at self.now.frames }
+    {
+        place(self.kept.as_slice(), at) < self.kept.len()
+    }
+    /// INTERRUPTED attribute 6, 7, 8 or 9 of an event. None exactly where no handler of it runs here.
+    #[tactic(auto, using(crate::proofs::Places::reads_kept, crate::proofs::Places::reads_none))]
+    pub fn interrupted(&self, attr: u8, at: Instance) -> Option<u64>
+        requires attribute { 6 ≤ attr }
+        requires last { attr ≤ 9 }
+        ensures { result ≡ interrupted attr at self.now.frames self.now.base }
+    {
+        let i = place(self.kept.as_slice(), at);
+        if i < self.kept.len() {
+            Some(word_of(&self.kept[i].saved, attr))
+        } else {
+            None
+        }
+    }
+
+    /// Writes words to the attributes of an event from `base` on. Those that are INTERRUPTED attributes are
+    /// taken where a handler of it runs here, of the flags the lower two bits; all else stays.
+    pub fn write_interrupted(&mut self, base: u8, words: &[u64], at: Instance)
+        ensures { self.new ≡ with_interrupted base words.now at self.old }
+    {
+        write(self.kept.as_mut_slice(), base, words, at);
     }
 }

@@ -5,6 +5,7 @@ mod contexts;
 mod kept;
 mod memory;
 mod regs;
+mod scan;
 
 pub use contexts::Contexts;
 pub use memory::Memory;

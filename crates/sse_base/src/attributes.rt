@@ -2,6 +2,7 @@
 
 ghost use Rattle.std.specs.Prelude.{◌≡◌};
 ghost use Rattle.sse_base.specs.Attributes.{range_of};
+ghost use Rattle.sse_base.specs.Calls.{word_for};
 
 /// Attributes of an event that follow one another: `count` of them, from number `base` on. There are
 /// ten attributes, with numbers 0 to 9 (SBI 3.0, "Supervisor Software Events", event attributes).
@@ -35,4 +36,17 @@ pub fn attr_range(base: u64, count: u64) -> Result<AttrRange, RangeFault>
         base: base as u8,
         count: count as u8,
     })
+}
+
+/// The word for an attribute in a write of `words` from attribute `base` on, or what it was where the write
+/// hasn't it.
+#[tactic(auto, unfolding(crate::specs::Calls::word_for))]
+pub fn word_for(attr: u8, base: u8, words: &[u64], old: u64) -> u64
+    ensures { result ≡ word_for attr base words.now old }
+{
+    if attr < base {
+        return old;
+    }
+    let place = (attr - base) as usize;
+    if place < words.len() { words[place] } else { old }
 }

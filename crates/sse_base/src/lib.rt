@@ -10,7 +10,7 @@ mod events;
 mod ids;
 
 pub use arrows::{Move, State, next_state};
-pub use attributes::{AttrRange, RangeFault, attr_range};
+pub use attributes::{AttrRange, RangeFault, attr_range, word_for};
 pub use codes::{Reply, SbiCode};
 pub use contexts::Privilege;
 pub use events::{Event, EventDecl, Slot};
