@@ -1,2 +1,3 @@
-pub mod Puts
 mod Copied
+mod Passed
+pub mod Puts

@@ -1,8 +1,9 @@
 //! A source and a sink over std's readers and writers, as standard input and output.
-ghost use Rattle.std.specs.Prelude.{◌≡◌, ℕ, ◌≤◌, length, IfOk, IfSome, None, vec_capacity};
+ghost use Rattle.std.specs.Prelude.{◌≡◌, ◌≤◌, [], ◌++◌, length, take, IfOk, OnOk, IsTrue, if◌then◌else◌};
 ghost use Rattle.std.specs.Io.{ReadsAtMost};
-ghost use Rattle.std.specs.Io.KnownBytes.{ReadConsumes};
+ghost use Rattle.std.specs.Io.KnownBytes.{ReadConsumes, Appends, Keeps};
 ghost use Rattle.ras_io.specs.Causes.{HasCause, Puts};
+ghost use Rattle.ras_io.specs.Std.{written_to};
 
 use crate::faults::{NoMemory, SinkFault, SourceFault};
 use crate::outside::{Sink, Source};
@@ -16,8 +17,8 @@ const TRIES: u32 = 1_000_000;
 // the most that a sink gathers before it writes
 const GATHERED: usize = 65536;
 
-/// A source over a reader of std, as `rt.reader()` for standard input. It tells no content, and is
-/// seen as its count of faults. A call that a signal interrupted is made again.
+/// A source over a reader of std, as `rt.reader()` for standard input. It is seen as an
+/// `Incoming`, and has left what the reader has. A call that a signal interrupted is made again.
 #[derive(Drop)]
 pub struct StdSource<R: Read + Drop> {
     from: R,
@@ -25,56 +26,59 @@ pub struct StdSource<R: Read + Drop> {
 }
 
 impl<R: Read + Drop> Model for StdSource<R> {
-    ghost Value = { ℕ };
+    ghost use Rattle.ras_io.specs.Std.{Incoming};
 
-    ghost view = { λ s. s.faults };
+    ghost Value = { Incoming };
+
+    ghost view = { λ s. record { left = R.remaining s.from; faults = s.faults } };
 }
 
 impl<R: Read + Drop> StdSource<R> {
     /// A source whose count of faults is 0.
     pub fn new(from: R) -> StdSource<R>
-        ensures { result ≡ 0 }
+        ensures { result ≡ record { left = R.remaining from; faults = 0 } }
     {
         StdSource { from, faults: 0 }
     }
 }
 
 // the count of one read, or None where it failed
-fn read_some<R: Read>(from: &mut R, buf: &mut [u8]) -> Option<usize>
-    ensures { IfSome result (λ n. n ≤ length buf.new) }
+fn read_some<R: Read>(from: &mut R, buf: &mut [u8]) -> Result<usize, SourceFault>
+    ensures bound { ReadsAtMost result buf.new }
+    ensures bytes { ReadConsumes (R.remaining from.old) (R.remaining from.new) result buf.new }
 {
     for _ in 0..TRIES {
         match from.read(buf) {
-            Ok(count) => return Some(count),
+            Ok(count) => return Ok(count),
             Err(e) => {
                 if e.kind() != ErrorKind::Interrupted {
-                    return None;
+                    return Err(SourceFault);
                 }
             }
         }
     }
-    None
+    Err(SourceFault)
 }
 
 impl<R: Read + Drop> Source for StdSource<R> {
-    ghost left = { λ _. None };
+    ghost left = { λ s. s.left };
 
-    ghost faults = { λ s. s };
+    ghost faults = { λ s. s.faults };
 
     fn read(&mut self, buf: &mut [u8]) -> Result<usize, SourceFault> {
         match read_some(&mut self.from, buf) {
-            Some(count) => Ok(count),
-            None => {
+            Ok(count) => Ok(count),
+            Err(fault) => {
                 self.faults = self.faults.saturating_add(1);
-                Err(SourceFault)
+                Err(fault)
             }
         }
     }
 }
 
 /// A sink over a writer of std, as `io::writer(&rt)` for standard output. It gathers up to 64 KiB
-/// and writes them at once. It tells no content, and is seen as its count of faults. What it has
-/// gathered goes out by `flush`, which its owner has to call at the end.
+/// and writes them at once. It is seen as an `Outgoing`. What waits goes out by `flush`, which its
+/// owner has to call at the end.
 #[derive(Drop)]
 pub struct StdSink<W: Write + Drop> {
     to: W,
@@ -84,19 +88,26 @@ pub struct StdSink<W: Write + Drop> {
 }
 
 impl<W: Write + Drop> Model for StdSink<W> {
-    ghost Value = { ℕ };
+    ghost use Rattle.std.specs.Prelude.{◌≤◌, length, drop};
+    ghost use Rattle.ras_io.specs.Std.{Outgoing};
 
-    ghost view = { λ s. s.faults };
+    ghost Value = { Outgoing };
+
+    ghost view = { λ s. record {
+      out = W.contents s.to;
+      waiting = drop s.sent s.gathered.items;
+      faults = s.faults;
+    } };
 
     ghost invariant = { λ s. (s.sent ≤ length s.gathered.items)
-        × (length s.gathered.items ≤ 65536) × (65536 ≤ vec_capacity s.gathered) };
+        × (length s.gathered.items ≤ 65536) };
 }
 
 impl<W: Write + Drop> StdSink<W> {
-    /// An empty sink whose count of faults is 0. `NoMemory` comes where no room was found for what
-    /// it gathers.
+    /// A sink with nothing waiting, whose count of faults is 0. `NoMemory` comes where no room was
+    /// found for what it gathers.
     pub fn new(alloc: Global, to: W) -> Result<StdSink<W>, NoMemory>
-        ensures { IfOk result (λ s. s ≡ 0) }
+        ensures { IfOk result (λ s. s ≡ record { out = W.contents to; waiting = []; faults = 0 }) }
     {
         let gathered = Vec::with_capacity(alloc, GATHERED).map_err(|_| NoMemory)?;
         Ok(StdSink {
@@ -107,28 +118,63 @@ impl<W: Write + Drop> StdSink<W> {
         })
     }
 
-    /// Writes what was gathered. `SinkFault` comes only where the writer failed or took nothing,
-    /// and then the count rose; what it didn't take is kept.
+    /// Gives the writer what waits. `SinkFault` comes only where the writer failed or took nothing,
+    /// and then the count rose; what it didn't take waits on.
     pub fn flush(&mut self) -> Result<(), SinkFault>
-        ensures { HasCause self.old self.new result }
+        ensures bytes { Keeps (written_to self.old) (written_to self.new) }
+        ensures empty { OnOk result (self.new.waiting ≡ []) }
+        ensures cause { HasCause self.old.faults self.new.faults result }
     {
-        let waiting = &self.gathered[self.sent..];
-        let count = send(&mut self.to, waiting);
-        let is_whole = count == waiting.len();
-        self.sent += count;
-        if !is_whole || self.to.flush().is_err() {
-            self.faults = self.faults.saturating_add(1);
-            return Err(SinkFault);
+        let (_, waiting) = self.gathered.as_slice().split_at(self.sent);
+        let given = hand_out(&mut self.to, waiting);
+        self.sent += given.count;
+        if given.is_whole {
+            return Ok(());
         }
-        self.gathered.clear();
+        self.faults = self.faults.saturating_add(1);
+        Err(SinkFault)
+    }
+
+    // lets the bytes wait, where there is room for them
+    fn gather(&mut self, bytes: &[u8]) -> bool
+        ensures { self.new ≡ (if result then record self.old { waiting = self.old.waiting ++ bytes.now } else self.old) }
+    {
+        if bytes.len() > GATHERED - self.gathered.len() {
+            return false;
+        }
+        match self.gathered.extend_from_slice(bytes) {
+            Ok(()) => true,
+            Err(_) => false,
+        }
+    }
+
+    // forgets what was given to the writer
+    fn clear(&mut self)
+        requires { self.old.waiting ≡ [] }
+        ensures { self.new ≡ self.old }
+    {
         self.sent = 0;
-        Ok(())
+        self.gathered.clear();
+    }
+
+    // gives the bytes to the writer at once
+    fn pass_on(&mut self, bytes: &[u8]) -> Result<(), SinkFault>
+        requires { self.old.waiting ≡ [] }
+        ensures bytes { Puts (written_to self.old) (written_to self.new) result bytes.now }
+        ensures cause { HasCause self.old.faults self.new.faults result }
+    {
+        if send(&mut self.to, bytes) == bytes.len() {
+            return Ok(());
+        }
+        self.faults = self.faults.saturating_add(1);
+        Err(SinkFault)
     }
 }
 
 // the count of one write, or 0 where it failed
 fn write_some<W: Write>(to: &mut W, bytes: &[u8]) -> usize
-    ensures { result ≤ length bytes.now }
+    ensures bound { result ≤ length bytes.now }
+    ensures bytes { Appends (W.contents to.old) (W.contents to.new) (take result bytes.now) }
 {
     for _ in 0..TRIES {
         match to.write(bytes) {
@@ -145,11 +191,13 @@ fn write_some<W: Write>(to: &mut W, bytes: &[u8]) -> usize
 
 // how many of the bytes the writer took: all of them, or those before it failed
 fn send<W: Write>(to: &mut W, bytes: &[u8]) -> usize
-    ensures { result ≤ length bytes.now }
+    ensures bound { result ≤ length bytes.now }
+    ensures bytes { Appends (W.contents to.old) (W.contents to.new) (take result bytes.now) }
 {
     let mut sent = 0;
     while sent < bytes.len() {
-        let count = write_some(to, &bytes[sent..]);
+        let (_, rest) = bytes.split_at(sent);
+        let count = write_some(to, rest);
         if count == 0 {
             return sent;
         }
@@ -158,25 +206,52 @@ fn send<W: Write>(to: &mut W, bytes: &[u8]) -> usize
     sent
 }
 
-impl<W: Write + Drop> Sink for StdSink<W> {
-    ghost written = { λ _. None };
+// what a writer took of some bytes, and whether all went well
+#[derive(Clone, Copy)]
+struct Given {
+    count: usize,
+    is_whole: bool,
+}
 
-    ghost faults = { λ s. s };
+// gives bytes to the writer, and has it write them
+fn hand_out<W: Write>(to: &mut W, bytes: &[u8]) -> Given
+    ensures bound { result.count ≤ length bytes.now }
+    ensures whole { IsTrue result.is_whole → result.count ≡ length bytes.now }
+    ensures bytes { Appends (W.contents to.old) (W.contents to.new) (take result.count bytes.now) }
+{
+    let count = send(to, bytes);
+    if count < bytes.len() {
+        return Given {
+            count,
+            is_whole: false,
+        };
+    }
+    match to.flush() {
+        Ok(()) => Given {
+            count,
+            is_whole: true,
+        },
+        Err(_) => Given {
+            count,
+            is_whole: false,
+        },
+    }
+}
+
+impl<W: Write + Drop> Sink for StdSink<W> {
+    ghost written = { written_to };
+
+    ghost faults = { λ s. s.faults };
 
     fn write(&mut self, bytes: &[u8]) -> Result<(), SinkFault> {
-        if bytes.len() > GATHERED - self.gathered.len() {
-            self.flush()?;
+        if self.gather(bytes) {
+            return Ok(());
         }
-        if bytes.len() <= GATHERED - self.gathered.len() {
-            return match self.gathered.extend_from_slice(bytes) {
-                Ok(()) => Ok(()),
-                Err(_) => unreachable!(),
-            };
+        self.flush()?;
+        self.clear();
+        if self.gather(bytes) {
+            return Ok(());
         }
-        if send(&mut self.to, bytes) < bytes.len() {
-            self.faults = self.faults.saturating_add(1);
-            return Err(SinkFault);
-        }
-        Ok(())
+        self.pass_on(bytes)
     }
 }

@@ -1,5 +1,8 @@
+ghost use Rattle.std.specs.Prelude.{Some};
+
 use super::*;
-use std::io::Cursor;
+use std::io;
+use std::io::{Cursor, Write};
 use std::test::Fail;
 
 fn text(rt: &impl AllocGlobal, bytes: &[u8]) -> Result<Vec<u8>, std::alloc::AllocError> {
@@ -57,5 +60,106 @@ fn reads_what_a_reader_of_std_gives(rt: HostRuntime) -> Result<(), Fail> {
     let mut source = StdSource::new(Cursor::new(b"tail\n".as_slice()));
     let bytes = read_all(rt.alloc(), &mut source, 80)?;
     assert_eq!(rt; bytes.as_slice(), b"tail\n".as_slice());
+    Ok(())
+}
+
+// a sink that takes only the first three bytes of its second write
+#[derive(Drop)]
+struct Partial {
+    taken: Vec<u8>,
+    writes: u64,
+    faults: u64,
+}
+
+impl Sink for Partial {
+    ghost written = { λ s. Some s.taken.items };
+
+    ghost faults = { λ s. s.faults };
+
+    fn write(&mut self, bytes: &[u8]) -> Result<(), SinkFault> {
+        self.writes = self.writes.saturating_add(1);
+        let count = if self.writes == 2 {
+            bytes.len().min(3)
+        } else {
+            bytes.len()
+        };
+        let (front, rest) = bytes.split_at(count);
+        if self.taken.extend_from_slice(front).is_ok() && rest.is_empty() {
+            return Ok(());
+        }
+        self.faults = self.faults.saturating_add(1);
+        Err(SinkFault)
+    }
+}
+
+#[test]
+fn takes_a_part_of_a_piece(rt: HostRuntime) -> Result<(), Fail> {
+    let mut sink = Partial {
+        taken: Vec::new(rt.alloc()),
+        writes: 0,
+        faults: 0,
+    };
+    assert_eq!(rt; sink.write(b"first\n"), Ok(()));
+    assert_eq!(rt; sink.write(b"second\n"), Err(SinkFault));
+    assert_eq!(rt; sink.taken.as_slice(), b"first\nsec".as_slice());
+    Ok(())
+}
+
+// a writer that takes at most two bytes a call, and fails where its room is used up
+#[derive(Drop)]
+struct Narrow {
+    taken: Vec<u8>,
+    room: usize,
+}
+
+impl Write for Narrow {
+    fn write(&mut self, buf: &[u8]) -> io::Result<usize> {
+        if self.taken.len() >= self.room {
+            return Err(io::Error::from(io::ErrorKind::StorageFull));
+        }
+        let count = buf.len().min(2);
+        self.taken.extend_from_slice(&buf[..count])?;
+        Ok(count)
+    }
+
+    fn flush(&mut self) -> io::Result<()> {
+        Ok(())
+    }
+}
+
+fn writer_for(rt: &impl AllocGlobal, room: usize) -> Narrow {
+    Narrow {
+        taken: Vec::new(rt.alloc()),
+        room,
+    }
+}
+
+#[test]
+fn gathers_and_gives_in_order(rt: HostRuntime) -> Result<(), Fail> {
+    let mut sink = StdSink::new(rt.alloc(), writer_for(&rt, 80))?;
+    assert_eq!(rt; sink.write(b"one\n"), Ok(()));
+    assert_eq!(rt; sink.write(b"two\n"), Ok(()));
+    assert_eq!(rt; sink.flush(), Ok(()));
+    assert_eq!(rt; sink.write(b"three\n"), Ok(()));
+    assert_eq!(rt; sink.flush(), Ok(()));
+    Ok(())
+}
+
+#[test]
+fn says_that_a_flush_failed(rt: HostRuntime) -> Result<(), Fail> {
+    let mut sink = StdSink::new(rt.alloc(), writer_for(&rt, 5))?;
+    assert_eq!(rt; sink.write(b"one\ntwo\n"), Ok(()));
+    assert_eq!(rt; sink.flush(), Err(SinkFault));
+    assert_eq!(rt; sink.flush(), Err(SinkFault));
+    Ok(())
+}
+
+#[test]
+fn passes_on_what_is_too_long_to_gather(rt: HostRuntime) -> Result<(), Fail> {
+    let long = vec![in rt.alloc(); b'x'; 65537]?;
+    let mut sink = StdSink::new(rt.alloc(), writer_for(&rt, 65537))?;
+    assert_eq!(rt; sink.write(long.as_slice()), Ok(()));
+    assert_eq!(rt; sink.write(b"y"), Ok(()));
+    assert_eq!(rt; sink.flush(), Err(SinkFault));
     Ok(())
 }
