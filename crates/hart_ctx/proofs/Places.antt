@@ -1,13 +1,12 @@
 -- Handlers by their instance, in the values that are kept and in the view.
-use Rattle.std.proofs.Common.{◌≡◌, ℕ, zero, suc, ◌+◌, ◌-◌, ◌<◌, ◌≤◌, ◌*◌, ◌/◌, ◌%◌, ◌==◌, nat_lt, cond, Bool, true, false, List, [], ◌∷◌, length, get_or, set, refl, ap, sym, ◌∙◌, arith, ◌⊎◌, inl, inr}
+use Rattle.std.proofs.Common.{◌≡◌, ℕ, suc, ◌<◌, ◌≤◌, ◌/◌, ◌%◌, nat_lt, true, false, List, [], ◌∷◌, length, get_or, set, refl, ap, sym, ◌∙◌, arith, inl, inr}
 use Rattle.std.proofs.lemmas.Bool.{cases_Bool}
-use Rattle.std.specs.Prelude.{Option, Some, None}
+use Rattle.std.specs.Prelude.{Some, None}
 use Rattle.sse_base.specs.declared.ids.Instance.{Instance}
 use Rattle.sse_base.specs.Ids.{same_instance}
-use Rattle.sse_base.specs.Contexts.{Context, Frame, Triple, Stack, Under, below, with_below, has_frame, interrupted, kept_by, changed_below, changed_own, on_top, over, flags_of}
+use Rattle.sse_base.specs.Contexts.{Frame, Triple, Under, has_frame, interrupted, kept_by, changed_below, changed_own, on_top, over, flags_of}
 use Rattle.sse_base.specs.Calls.{with_interrupted, with_interrupted_triple, with_interrupted_words, word_for}
 use Rattle.hart_ctx.specs.declared.regs.Regs.{Regs}
-use Rattle.hart_ctx.specs.declared.regs.Saved.{Saved}
 use Rattle.hart_ctx.specs.declared.kept.Kept.{Kept}
 use Rattle.hart_ctx.specs.Registers.{triple_in, live_of}
 use Rattle.hart_ctx.specs.Levels.{triple_kept, frames_from, base_from, frame_of, stack_of, kept_place, saved_with, word_of}
@@ -63,9 +62,16 @@ writes_here : (base : ℕ) (words : List ℕ) (at : Instance) (t : Triple) (k ne
     same_instance k.at at ≡ true → new.at ≡ k.at → new.saved ≡ saved_with base words k.saved →
     both base words at (frames_from t (k ∷ ks)) (base_from t (k ∷ ks)) ≡ under_from t (new ∷ ks)
 writes_here base words at t k new ks s a w =
-    rw (s, below_frames (triple_kept k.saved) ks, writes_first base words k,
-        with_below_frames (triple_kept k.saved) (triple_kept (saved_with base words k.saved)) ks, s, a, w)
-        refl
+    rw (
+      s,
+      below_frames (triple_kept k.saved) ks,
+      writes_first base words k,
+      with_below_frames (triple_kept k.saved) (triple_kept (saved_with base words k.saved)) ks,
+      s,
+      a,
+      w,
+    )
+    refl
 
 -- it is another one
 writes_there : (base : ℕ) (words : List ℕ) (at : Instance) (f : Frame) (fs : List Frame) (b : Triple) →
@@ -78,18 +84,18 @@ pub writes_kept : (base : ℕ) (words : List ℕ) (at : Instance) (t : Triple) (
 writes_kept base words at t [] k new l h a w = absurd (omega arith)
 writes_kept base words at t (j ∷ ks) k new l h a w =
     elim (cases_Bool (same_instance j.at at)) [
-      inl s ↦
-        let e : kept_place at (j ∷ ks) ≡ 0 = rw s refl
-        in let g : k ≡ j = rw s at h
-        in writes_here base words at t j new ks s (a ∙ ap (λ x. x.at) g) (w ∙ ap (λ (x : Kept). saved_with base words x.saved) g)
-            ∙ ap (λ i. under_from t (set (j ∷ ks) i new)) (sym e)
-    | inr f ↦
-        let e : kept_place at (j ∷ ks) ≡ suc (kept_place at ks) = rw f refl
-        in let m : kept_place at ks < length ks = omega (arith, e)
-        in let g : k ≡ get_or ks (kept_place at ks) k = rw f at h
-        in writes_there base words at (frame_of t j) (frames_from (triple_kept j.saved) ks) (base_from (triple_kept j.saved) ks) f
-            ∙ ap (on_top (frame_of t j)) (writes_kept base words at (triple_kept j.saved) ks k new m g a w)
-            ∙ ap (λ i. under_from t (set (j ∷ ks) i new)) (sym e)
+      | inl s ↦
+          let e : kept_place at (j ∷ ks) ≡ 0 = rw s refl
+          in let g : k ≡ j = rw s at h
+          in writes_here base words at t j new ks s (a ∙ ap (λ x. x.at) g) (w ∙ ap (λ (x : Kept). saved_with base words x.saved) g)
+          ∙ ap (λ i. under_from t (set (j ∷ ks) i new)) (sym e)
+      | inr f ↦
+          let e : kept_place at (j ∷ ks) ≡ suc (kept_place at ks) = rw f refl
+          in let m : kept_place at ks < length ks = omega (arith, e)
+          in let g : k ≡ get_or ks (kept_place at ks) k = rw f at h
+          in writes_there base words at (frame_of t j) (frames_from (triple_kept j.saved) ks) (base_from (triple_kept j.saved) ks) f
+          ∙ ap (on_top (frame_of t j)) (writes_kept base words at (triple_kept j.saved) ks k new m g a w)
+          ∙ ap (λ i. under_from t (set (j ∷ ks) i new)) (sym e)
     ]
 
 pub writes_none : (base : ℕ) (words : List ℕ) (at : Instance) (t : Triple) (ks : List Kept) → length ks ≤ kept_place at ks →
@@ -97,14 +103,14 @@ pub writes_none : (base : ℕ) (words : List ℕ) (at : Instance) (t : Triple) (
 writes_none base words at t [] l = refl
 writes_none base words at t (j ∷ ks) l =
     elim (cases_Bool (same_instance j.at at)) [
-      inl s ↦
-        let e : kept_place at (j ∷ ks) ≡ 0 = rw s refl
-        in absurd (omega (arith, e))
-    | inr f ↦
-        let e : kept_place at (j ∷ ks) ≡ suc (kept_place at ks) = rw f refl
-        in let m : length ks ≤ kept_place at ks = omega (arith, e)
-        in writes_there base words at (frame_of t j) (frames_from (triple_kept j.saved) ks) (base_from (triple_kept j.saved) ks) f
-            ∙ ap (on_top (frame_of t j)) (writes_none base words at (triple_kept j.saved) ks m)
+      | inl s ↦
+          let e : kept_place at (j ∷ ks) ≡ 0 = rw s refl
+          in absurd (omega (arith, e))
+      | inr f ↦
+          let e : kept_place at (j ∷ ks) ≡ suc (kept_place at ks) = rw f refl
+          in let m : length ks ≤ kept_place at ks = omega (arith, e)
+          in writes_there base words at (frame_of t j) (frames_from (triple_kept j.saved) ks) (base_from (triple_kept j.saved) ks) f
+          ∙ ap (on_top (frame_of t j)) (writes_none base words at (triple_kept j.saved) ks m)
     ]
 
 -- a write to one of the kept values, and a write that finds none

@@ -6,6 +6,8 @@ mod kept;
 mod memory;
 mod regs;
 mod scan;
+#[cfg(test)]
+mod tests;
 
 pub use contexts::Contexts;
 pub use memory::Memory;

@@ -1,8 +1,9 @@
 //! The board's memory.
 
-ghost use Rattle.std.specs.Prelude.{◌≡◌, unwrap_or, is_some};
+ghost use Rattle.std.specs.Prelude.{◌≡◌, ◌≤◌, true, unwrap_or, is_some, length, take};
 ghost use Rattle.std.specs.Prelude.{if◌then◌else◌};
-ghost use Rattle.sse_base.specs.Words.{is_word, word_index, fresh_memory, load, store};
+ghost use Rattle.sse_base.specs.Words.{is_word, word_index, fresh_memory, load, store, are_words, words_at, put_words};
+ghost use Rattle.sse_base.specs.Calls.{padded};
 
 use std::marker::Model;
 
@@ -62,5 +63,39 @@ impl Memory {
         let place = place(addr)?;
         self.words[place] = value;
         Some(())
+    }
+    /// Whether `count` words stand in memory from the address `lo` on: `lo` is a multiple of 8, and no word
+    /// is outside memory.
+    pub fn are_words(lo: u64, count: u64) -> bool
+        ensures { result ≡ are_words lo count }
+    {
+        lo % 8 == 0 && lo >= BASE && lo <= END && count <= (END - lo) / 8
+    }
+
+    /// `count` words from the address `lo` on, and zeros up to ten.
+    #[tactic(auto, using(crate::proofs::Ranges::one_more))]
+    pub fn read_words(&self, lo: u64, count: u8) -> [u64; 10]
+        requires few { count ≤ 10 }
+        requires range { are_words lo count ≡ true }
+        ensures padded { result ≡ padded (words_at self.now lo count) }
+        ensures words { take count result ≡ words_at self.now lo count }
+    {
+        let start = ((lo - BASE) / 8) as usize;
+        let mut out = [0; 10];
+        for i in 0..count as usize {
+            out[i] = self.words[start + i];
+        }
+        out
+    }
+
+    /// Writes words from the address `lo` on; all else stays.
+    pub fn write_words(&mut self, lo: u64, words: &[u64])
+        requires { are_words lo (length words.now) ≡ true }
+        ensures { self.new ≡ put_words self.old (word_index lo) words.now }
+    {
+        let start = ((lo - BASE) / 8) as usize;
+        for (i, word) in words.iter().enumerate() {
+            self.words[start + i] = *word;
+        }
     }
 }

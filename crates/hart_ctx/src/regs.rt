@@ -64,15 +64,15 @@ pub fn resume(regs: &mut Regs, saved: &Saved)
     requires { saved.now.flags ≤ 3 }
     ensures { regs.new ≡ resumed saved.now regs.old }
 {
-    let old = *regs;
+    let before = *regs;
     *regs = Regs {
-        pc: old.sepc,
-        privilege: if old.spp {
+        pc: before.sepc,
+        privilege: if before.spp {
             Privilege::Supervisor
         } else {
             Privilege::User
         },
-        sie: old.spie,
+        sie: before.spie,
         sepc: saved.sepc,
         spp: saved.flags % 2 == 1,
         spie: saved.flags / 2 % 2 == 1,

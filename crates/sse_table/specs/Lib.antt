@@ -1,0 +1,2 @@
+-- What the code of the table does.
+pub mod Start

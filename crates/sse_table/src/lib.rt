@@ -1,0 +1,9 @@
+//! The table of a board's events: each instance with its state, its attributes and whether it is pending.
+#![tactic(auto)]
+
+mod instances;
+mod start;
+mod table;
+
+pub use sse_base::{AttrRange, Event, EventDecl, Slot};
+pub use table::Table;
