@@ -1,0 +1,4 @@
+pub mod Claimed
+pub mod Stands
+pub mod Signalled
+pub mod Summaries
