@@ -1,9 +1,9 @@
 -- Claims and invalidations keep the history of a record.
-use Rattle.std.proofs.Common.{◌≡◌, ℕ, ◌%◌, Bool, true, false, cond, ◌||◌, nat_lt, List, [], ◌∷◌, refl, inl, inr, sym, ap, ◌∙◌, subst, MatchBool}
+use Rattle.std.proofs.Common.{◌≡◌, ◌%◌, true, false, cond, ◌||◌, nat_lt, List, [], ◌∷◌, refl, inl, inr, sym, ap, ◌∙◌, subst}
 use Rattle.std.proofs.lemmas.Bool.{cases_Bool, MatchBool-at_true, MatchBool-at_false}
 use Rattle.reri_fields.specs.declared.report.RecordCopy.{RecordCopy}
-use Rattle.reri_fields.specs.Fields.{StatusFields, status_fields, status_spare}
-use Rattle.reri_fields.specs.Records.{Error, Event, Origin, Shows, Stands, is_any, shown, is_multiple, has_severity, greatest_of, counted, since, in_progress, number_in}
+use Rattle.reri_fields.specs.Fields.{StatusFields, status_fields}
+use Rattle.reri_fields.specs.Records.{Event, Origin, Shows, Stands, is_any, shown, is_multiple, has_severity, counted, since, in_progress, number_in}
 use Rattle.reri_fields.specs.Records.Event.{Claimed, Invalidated}
 use Rattle.reri_log.proofs.Logging.{shows_moved}
 use Rattle.reri_log.proofs.Histories.{not_claimed}
@@ -48,8 +48,8 @@ since_stood origin history h = rw h refl
 claim_sets : (origin : Origin) (history : List Event) → (is_any (since origin history) || in_progress origin history) ≡ is_any (since origin history)
 claim_sets origin history =
     elim (cases_Bool (is_any (since origin history))) as (λ _. (is_any (since origin history) || in_progress origin history) ≡ is_any (since origin history)) [
-      inl any ↦ rw any refl
-    | inr none ↦ rw (none, not_claimed origin history none) refl
+      | inl any ↦ rw any refl
+      | inr none ↦ rw (none, not_claimed origin history none) refl
     ]
 
 -- ---- The registers ----
@@ -109,8 +109,8 @@ stood_stands origin history old off s =
 pub invalidate_stands : (origin : Origin) (history : List Event) (old new : RecordCopy) → IsInvalidated old new → Stands origin history old → Stands origin (Invalidated ∷ history) new
 invalidate_stands origin history old new k s =
     elim (cases_Bool (in_progress origin history)) as (λ _. Stands origin (Invalidated ∷ history) new) [
-      inl on ↦ cleared_stands origin history old new (MatchBool-at_true (IsCleared old new) (new ≡ old) (s.in_progress ∙ on) k) on s
-    | inr off ↦
-        let same = MatchBool-at_false (IsCleared old new) (new ≡ old) (s.in_progress ∙ off) k in
-        subst (λ r. Stands origin (Invalidated ∷ history) r) (sym same) (stood_stands origin history old off s)
+      | inl on ↦ cleared_stands origin history old new (MatchBool-at_true (IsCleared old new) (new ≡ old) (s.in_progress ∙ on) k) on s
+      | inr off ↦
+          let same = MatchBool-at_false (IsCleared old new) (new ≡ old) (s.in_progress ∙ off) k in
+          subst (λ r. Stands origin (Invalidated ∷ history) r) (sym same) (stood_stands origin history old off s)
     ]

@@ -2,3 +2,4 @@ pub mod Claimed
 pub mod Stands
 pub mod Signalled
 pub mod Summaries
+pub mod Fresh

@@ -1,6 +1,5 @@
 -- A record is signalled, told from its registers, exactly where its history says so.
-use Rattle.std.proofs.Common.{◌≡◌, ℕ, ◌+◌, ◌*◌, ◌<◌, ◌≤◌, Bool, true, false, ◌&&◌, nat_lt, List, [], ◌∷◌, length, slice_get, get_or, Option, Some, None, refl, inl, inr, sym, ap, ◌∙◌, arith}
-use Rattle.std.specs.Option.{option_map_or}
+use Rattle.std.proofs.Common.{◌≡◌, ℕ, ◌+◌, ◌*◌, ◌<◌, ◌≤◌, Bool, true, false, nat_lt, List, length, slice_get, get_or, Option, Some, None, refl, inl, inr, sym, ap, ◌∙◌, arith}
 use Rattle.std.proofs.lemmas.Bool.{cases_Bool, cases_lt, cond-true}
 use Rattle.std.proofs.lemmas.Option.{slice_get_past, slice_get-get_or}
 use Rattle.reri_fields.specs.declared.severity.Severity.{Severity}
@@ -58,14 +57,14 @@ pub signal_is : (origin : Origin) (history : List Event) (copy : RecordCopy) →
 signal_is origin history copy s =
     let errors = since origin history in
     elim (cases_Bool (is_any errors)) as (λ _. is_signalled copy ≡ nat_lt 0 (level_after origin history)) [
-      inl any ↦
-        let valid = s.shows.valid ∙ any in
-        let t = top_some errors copy s.shows any in
-        let at = shown_some errors any in
-        let same = shown_severity errors copy t.0 at.0 s.shows any t.2 at.1 at.2 in
-        signal_of_some copy t.0 valid (sym (top_valid (status_fields copy.status) valid) ∙ t.1) ∙ ap (λ w. nat_lt 0 (level_of (control_fields w) t.0)) s.control ∙ ap (λ x. nat_lt 0 (level_of (control_fields origin.control) x)) (sym same) ∙ ap (λ n. nat_lt 0 n) (sym (level_of_some origin history at.0 at.1))
-    | inr none ↦
-        signal_of_none copy (s.shows.valid ∙ none) ∙ ap (λ n. nat_lt 0 n) (sym (level_of_none origin history (shown_none errors none)))
+      | inl any ↦
+          let valid = s.shows.valid ∙ any in
+          let t = top_some errors copy s.shows any in
+          let at = shown_some errors any in
+          let same = shown_severity errors copy t.0 at.0 s.shows any t.2 at.1 at.2 in
+          signal_of_some copy t.0 valid (sym (top_valid (status_fields copy.status) valid) ∙ t.1) ∙ ap (λ w. nat_lt 0 (level_of (control_fields w) t.0)) s.control ∙ ap (λ x. nat_lt 0 (level_of (control_fields origin.control) x)) (sym same) ∙ ap (λ n. nat_lt 0 n) (sym (level_of_some origin history at.0 at.1))
+      | inr none ↦
+          signal_of_none copy (s.shows.valid ∙ none) ∙ ap (λ n. nat_lt 0 n) (sym (level_of_none origin history (shown_none errors none)))
     ]
 
 pub signalled_there : (copies : List RecordCopy) (at : ℕ) (copy : RecordCopy) → slice_get copies at ≡ Some copy → is_signalled_at copies at ≡ is_signalled copy
@@ -92,11 +91,11 @@ after_nowhere origins history at h = rw (slice_get_past origins at h) refl
 pub signalled_is : (origins : List Origin) (history : List BankEvent) (bank : BankView) → BankStands origins history bank → (at : ℕ) → is_signalled_at bank.copies at ≡ is_signalled_after origins history at
 signalled_is origins history bank s at =
     elim (cases_lt at (length bank.copies)) as (λ _. is_signalled_at bank.copies at ≡ is_signalled_after origins history at) [
-      inl within ↦
-        let copy = get_there bank.copies at within in
-        let origin = get_there origins at (omega (arith, s.count)) in
-        signalled_there bank.copies at copy.0 copy.1 ∙ signal_is origin.0 (events_of at history) copy.0 (s.each at origin.0 copy.0 origin.1 copy.1) ∙ sym (after_there origins history at origin.0 origin.1)
-    | inr past ↦ signalled_nowhere bank.copies at past ∙ sym (after_nowhere origins history at (omega (arith, s.count)))
+      | inl within ↦
+          let copy = get_there bank.copies at within in
+          let origin = get_there origins at (omega (arith, s.count)) in
+          signalled_there bank.copies at copy.0 copy.1 ∙ signal_is origin.0 (events_of at history) copy.0 (s.each at origin.0 copy.0 origin.1 copy.1) ∙ sym (after_there origins history at origin.0 origin.1)
+      | inr past ↦ signalled_nowhere bank.copies at past ∙ sym (after_nowhere origins history at (omega (arith, s.count)))
     ]
 
 pub least_same : (f g : ℕ → Bool) (found : Option ℕ) → ((at : ℕ) → f at ≡ g at) → IsLeast f found → IsLeast g found

@@ -1,13 +1,12 @@
 -- A bank that stands for a history stands for the history with one event more once that event has done its work on one
 -- record. These lemmas speak of what contracts see of a bank, and of no way to store it.
-use Rattle.std.proofs.Common.{◌≡◌, ◌≢◌, ℕ, suc, zero, ◌<◌, ◌≤◌, Bool, true, false, ◌||◌, nat_lt, ◌==◌, cond, List, [], ◌∷◌, length, set, slice_get, Option, Some, None, refl, inl, inr, sym, ap, ◌∙◌, subst, arith}
-use Rattle.std.specs.Option.{option_map_or}
+use Rattle.std.proofs.Common.{◌≡◌, ◌≢◌, ℕ, suc, zero, ◌<◌, ◌≤◌, Bool, true, false, ◌||◌, nat_lt, ◌==◌, cond, List, [], ◌∷◌, length, set, slice_get, Some, None, refl, inl, inr, sym, ap, ◌∙◌, subst, arith}
 use Rattle.std.proofs.lemmas.Bool.{cases_eq, eq-eqb, ne_eqb}
 use Rattle.std.proofs.lemmas.List.{length-set}
-use Rattle.std.proofs.lemmas.Option.{slice_get_within, slice_get_past, same_Some, none-some}
+use Rattle.std.proofs.lemmas.Option.{slice_get_within, slice_get_past, same_Some}
 use Rattle.reri_fields.specs.declared.report.RecordCopy.{RecordCopy}
 use Rattle.reri_fields.specs.declared.report.Logged.{Logged}
-use Rattle.reri_fields.specs.Records.{Error, Event, Origin, AllBefore, Stands}
+use Rattle.reri_fields.specs.Records.{Error, Origin, AllBefore, Stands}
 use Rattle.reri_fields.specs.Records.Event.{Reported, Claimed, Invalidated}
 use Rattle.reri_fields.specs.Outcome.{outcome}
 use Rattle.reri_fields.specs.Banks.{BankEvent, BankView, BankStands, AllLogsBefore, events_of, level_in, raised, asks}
@@ -85,13 +84,13 @@ one_changes origins history later rec before after bank asking s was same step a
       count = length-set bank.copies rec after ∙ s.count;
       controls = s.controls;
       each = λ at origin copy h k.
-        elim (cases_eq at rec) as (λ _. Stands origin (events_of at later) copy) [
-          inl here ↦
-            let now : copy ≡ after = same_Some copy after (sym k ∙ ap (λ i. slice_get (set bank.copies rec after) i) here ∙ get-set_same bank.copies rec after (slice_get_within bank.copies rec before was)) in
-            subst (λ i. Stands origin (events_of i later) copy) (sym here) (subst (λ x. Stands origin (events_of rec later) x) (sym now) (step origin (s.each rec origin before (ap (λ i. slice_get origins i) (sym here) ∙ h) was)))
-        | inr elsewhere ↦
-            subst (λ x. Stands origin x copy) (sym (same at elsewhere)) (s.each at origin copy h (sym (get-set_other bank.copies rec at after elsewhere) ∙ k))
-        ];
+          elim (cases_eq at rec) as (λ _. Stands origin (events_of at later) copy) [
+            | inl here ↦
+                let now : copy ≡ after = same_Some copy after (sym k ∙ ap (λ i. slice_get (set bank.copies rec after) i) here ∙ get-set_same bank.copies rec after (slice_get_within bank.copies rec before was)) in
+                subst (λ i. Stands origin (events_of i later) copy) (sym here) (subst (λ x. Stands origin (events_of rec later) x) (sym now) (step origin (s.each rec origin before (ap (λ i. slice_get origins i) (sym here) ∙ h) was)))
+            | inr elsewhere ↦
+                subst (λ x. Stands origin x copy) (sym (same at elsewhere)) (s.each at origin copy h (sym (get-set_other bank.copies rec at after elsewhere) ∙ k))
+          ];
       asking = ask;
     }
 
@@ -102,8 +101,8 @@ none_changes origins history later rec bank s past same ask =
       count = s.count;
       controls = s.controls;
       each = λ at origin copy h k.
-        let within = slice_get_within bank.copies at copy k in
-        subst (λ x. Stands origin x copy) (sym (same at (λ e. omega arith))) (s.each at origin copy h k);
+          let within = slice_get_within bank.copies at copy k in
+          subst (λ x. Stands origin x copy) (sym (same at (λ e. omega arith))) (s.each at origin copy h k);
       asking = s.asking ∙ ask;
     }
 

@@ -1,11 +1,11 @@
 -- What each access to a bank does: where it finds what it names, what it adds to the bank's history, what it changes and
 -- what it answers.
 -- SetRead and Invalidate follow RERI 1.0 (`srdp` and `sinv` of `control_i`). The list of accesses is this project's own.
-use Rattle.std.specs.Prelude.{◌≡◌, ℕ, ◌<◌, if◌then◌else◌, MatchBool, List, ◌∷◌, slice_get, Option, Some}
+use Rattle.std.specs.Prelude.{◌≡◌, ℕ, ◌<◌, if◌then◌else◌, List, ◌∷◌, slice_get, Some}
 use Rattle.std.specs.Option.{option_map, option_and_then}
 use Rattle.reri_fields.specs.declared.report.RecordCopy.{RecordCopy}
 use Rattle.reri_fields.specs.Fields.{status_fields}
-use Rattle.reri_fields.specs.Banks.{BankEvent, BankView}
+use Rattle.reri_fields.specs.Banks.{BankEvent}
 use Rattle.reri_fields.specs.Banks.BankEvent.{Claims, Invalidates}
 use Rattle.reri_bank.specs.declared.access.Access.{Access}
 use Rattle.reri_bank.specs.declared.access.Access.TheVariants.{Read, Summary, SetRead, Invalidate}

@@ -1,9 +1,14 @@
 -- What a reader does to the registers of one record, and what they read as, for any registers.
 -- Read-in-progress and the invalidation follow RERI 1.0 (`srdp` and `sinv` of `control_i`), in this project's profile: an
 -- invalidation takes effect only where read-in-progress is set.
-use Rattle.std.specs.Prelude.{◌≡◌, ℕ, ◌+◌, ◌*◌, Bool, true, false, if◌then◌else◌, MatchBool, List, [], ◌∷◌, slice_get, slice_set, Option, Some}
+use Rattle.std.specs.Prelude.{◌≡◌, ℕ, ◌+◌, ◌*◌, true, false, if◌then◌else◌, MatchBool, List, [], ◌∷◌, slice_get, slice_set, Some}
 use Rattle.reri_fields.specs.declared.report.RecordCopy.{RecordCopy}
+use Rattle.reri_fields.specs.Records.{Origin}
 use Rattle.reri_fields.specs.Fields.{StatusFields, status_fields, status_spare}
+
+-- how a record begins that is given by its control word and its starting count
+abbrev pub origin_of : ℕ × ℕ → Origin
+origin_of first = record { control = first.0; count = first.1 }
 
 -- the six registers, in their order
 abbrev pub registers : RecordCopy → List ℕ

@@ -1,22 +1,20 @@
 //! The bank.
-ghost use Rattle.std.specs.Prelude.{◌≡◌, ◌≤◌, ◌<◌, ◌↔◌, ℕ, List, ◌∷◌, [], length, slice_get, nat_lt, ◌||◌, IsNone, IfSome, IfNone, Some, false};
+ghost use Rattle.std.specs.Prelude.{All, IfOk, map, ◌≡◌, ◌≤◌, ◌<◌, ◌↔◌, ℕ, List, ◌∷◌, [], length, slice_get, nat_lt, ◌||◌, IsNone, IfSome, IfNone, Some, false};
 ghost use Rattle.reri_fields.specs.Records.{Origin};
 ghost use Rattle.reri_fields.specs.Outcome.{outcome};
 ghost use Rattle.reri_fields.specs.Banks.{BankEvent, BankStands, AllLogsBefore, events_of, level_in, IsLeast, is_signalled_at, is_signalled_after};
 ghost use Rattle.reri_fields.specs.Banks.BankEvent.{Logs, Claims, Invalidates, ScanOver};
 ghost use Rattle.reri_log.specs.Update.{Updates};
-ghost use Rattle.reri_bank.specs.Registers.{OneChanges, IsClaimed, IsInvalidated, registers, summary};
+ghost use Rattle.reri_bank.specs.Registers.{origin_of, OneChanges, IsClaimed, IsInvalidated, registers, summary};
 ghost use Rattle.reri_bank.specs.Accesses.{IsThere, accessed, Makes, Gives};
 
-use std::alloc::Global;
-use std::marker::Model;
-
+use crate::access::Access;
+use crate::record::{claim, fresh, invalidate, is_signalled};
 use ras_io::NoMemory;
 use reri_fields::{Logged, RecordCopy, Report, Status};
 use reri_log::log;
-
-use crate::access::Access;
-use crate::record::{claim, invalidate, is_signalled};
+use std::alloc::Global;
+use std::marker::Model;
 
 /// The most records that a bank can have.
 pub const MAX_RECORDS: usize = 16;
@@ -42,6 +40,26 @@ impl Model for Bank {
 }
 
 impl Bank {
+    /// A bank of records with these control words and starting counts, to which nothing has happened yet.
+    ///
+    /// There are 1 to 16 of them, and no control word has a bit outside its fields. `NoMemory` comes where no room was found
+    /// for them.
+    pub fn new(alloc: Global, start: &[(u64, u16)]) -> Result<Bank, NoMemory>
+        requires any { 0 < length start.now }
+        requires room { length start.now ≤ MAX_RECORDS }
+        requires controls { All (λ first. first.0 ≤ 0xff) start.now }
+        ensures { IfOk result (λ bank. BankStands (map origin_of start.now) [] bank) }
+    {
+        let mut records = Vec::with_capacity(alloc, start.len()).map_err(|_| NoMemory)?;
+        for &(control, count) in start {
+            records.push(fresh(control, count)).map_err(|_| NoMemory)?;
+        }
+        Ok(Bank {
+            records,
+            asks: false,
+        })
+    }
+
     /// What a reader's access does and answers. None comes exactly where the record's number is not below the bank's count of
     /// records or the register's is above 5, and then nothing changed.
     pub fn access(&mut self, access: Access) -> Option<u64>

@@ -12,5 +12,5 @@ mod record;
 pub use access::Access;
 pub use bank::{Bank, MAX_RECORDS};
 
-
-
+#[cfg(test)]
+mod tests;

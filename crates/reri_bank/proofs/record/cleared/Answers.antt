@@ -1,14 +1,7 @@
-use Rattle.std.proofs.Common.{◌≡◌, false, refl, ap, ◌∙◌}
-use Rattle.reri_fields.specs.Fields.{StatusFields, status_fields, status_spare, flag, bits}
+use Rattle.std.proofs.Common.{refl, ap, ◌∙◌}
+use Rattle.reri_fields.specs.Fields.{StatusFields}
+use Rattle.reri_bank.proofs.Fresh.{zero_fields, zero_spare}
 use Rattle.reri_bank.proofs.record.cleared.Goals as goal
-
-zero_fields : status_fields 0 ≡ record { valid = false; ce = false; ued = false; uec = false; priority = 0; multiple = false; in_progress = false; overflow = false; code = 0; count = 0 }
-unfolding status_fields flag bits
-zero_fields = refl
-
-zero_spare : status_spare 0 ≡ (0, 0, 0)
-unfolding status_spare bits
-zero_spare = refl
 
 pub returns : goal.returns
 returns c =

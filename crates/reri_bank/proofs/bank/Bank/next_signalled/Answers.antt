@@ -1,4 +1,4 @@
-use Rattle.std.proofs.Common.{◌≡◌, ℕ, ◌<◌, ◌≤◌, true, false, length, Some, None, below_more, inl, inr, sym, ap, ◌∙◌, subst, arith}
+use Rattle.std.proofs.Common.{◌≡◌, ℕ, true, false, Some, None, below_more, inl, inr, sym, ap, ◌∙◌, subst, arith}
 use Rattle.std.proofs.lemmas.Bool.{cases_lt}
 use Rattle.reri_fields.specs.Banks.{is_signalled_at, is_signalled_after, IsLeast}
 use Rattle.reri_bank.proofs.Signalled.{signalled_is, signalled_read, signalled_nowhere, least_same}

@@ -1,6 +1,5 @@
-use Rattle.std.proofs.Common.{◌≡◌, ◌≤◌, ℕ, refl, sym, ap, ◌∙◌, subst, slice_get, Some, length, set, ◌∷◌, ◌||◌, nat_lt, arith}
+use Rattle.std.proofs.Common.{◌≤◌, refl, sym, ap, subst, Some, length, set, ◌∷◌, ◌||◌, nat_lt, arith}
 use Rattle.std.proofs.lemmas.Option.{slice_get_read, slice_get_within}
-use Rattle.reri_fields.specs.declared.report.RecordCopy.{RecordCopy}
 use Rattle.reri_fields.specs.Records.{Error}
 use Rattle.reri_fields.specs.Banks.{BankStands}
 use Rattle.reri_fields.specs.Banks.BankEvent.{Logs}

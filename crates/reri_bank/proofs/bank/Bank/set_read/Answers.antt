@@ -1,7 +1,6 @@
-use Rattle.std.proofs.Common.{◌≡◌, ◌≤◌, ℕ, refl, sym, ap, ◌∙◌, subst, slice_get, Some, length, vec_len, set, arith}
+use Rattle.std.proofs.Common.{◌≡◌, ◌≤◌, refl, sym, ap, ◌∙◌, subst, slice_get, Some, length, set, arith}
 use Rattle.std.specs.Option.{option_map}
 use Rattle.std.proofs.lemmas.Option.{slice_get_read, get_or_from_slice_get}
-use Rattle.reri_fields.specs.declared.report.RecordCopy.{RecordCopy}
 use Rattle.reri_fields.specs.Banks.{BankStands}
 use Rattle.reri_bank.specs.Registers.{OneChanges, IsClaimed}
 use Rattle.reri_bank.proofs.Stands.{claim_keeps, claim_nowhere, get-set_same}

@@ -1,4 +1,4 @@
-use Rattle.std.proofs.Common.{◌≡◌, ℕ, ◌<◌, ◌^◌, take}
+use Rattle.std.proofs.Common.{◌≡◌, ◌<◌, ◌^◌, take}
 use Rattle.reri_bank.specs.Registers.{summary}
 use Rattle.reri_bank.proofs.bank.Bank.summary.Given as goal
 
