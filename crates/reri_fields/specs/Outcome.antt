@@ -15,7 +15,7 @@ unfoldable pub outcome : Origin → List Event → Error → Logged
 outcome origin history error =
     if (control_fields origin.control).enable
     then (if is_logged origin history error.report
-      then (if wrote origin history error
-        then Wrote (level_of (control_fields origin.control) error.report.severity) else Kept)
-      else Counted)
+    then (if wrote origin history error
+    then Wrote (level_of (control_fields origin.control) error.report.severity) else Kept)
+    else Counted)
     else Disabled

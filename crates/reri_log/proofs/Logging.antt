@@ -156,9 +156,9 @@ pub record After (origin : Origin) (history : List Event) (e : Error) (new : Rec
   pub stands : Stands origin (Reported e ∷ history) new
   pub outcome_is : answer ≡ outcome origin history e
 
--- a change of the count alone shows the same errors
-pub shows_moved : (errors later : List Error) (old new : RecordCopy) (n : ℕ) (v : Bool) → later ≡ errors → Shows errors old → status_fields new.status ≡ record (status_fields old.status) { count = n; overflow = v } → new.address ≡ old.address → new.info ≡ old.info → new.supplement ≡ old.supplement → new.time ≡ old.time → Shows later new
-shows_moved errors later old new n v same s h address info supplement time =
+-- a change of read-in-progress and the count alone shows the same errors
+pub shows_moved : (errors later : List Error) (old new : RecordCopy) (p : Bool) (n : ℕ) (v : Bool) → later ≡ errors → Shows errors old → status_fields new.status ≡ record (status_fields old.status) { in_progress = p; count = n; overflow = v } → new.address ≡ old.address → new.info ≡ old.info → new.supplement ≡ old.supplement → new.time ≡ old.time → Shows later new
+shows_moved errors later old new p n v same s h address info supplement time =
     subst (λ x. Shows x new) (sym same) (record {
       valid = ap (λ f. f.valid) h ∙ s.valid;
       ce = ap (λ f. f.ce) h ∙ s.ce;
@@ -225,7 +225,7 @@ module _ (origin : Origin) (history : List Event) (e : Error) (old new : RecordC
       record {
         stands = record {
           control = u.control ∙ s.control;
-          shows = shows_moved (since origin history) (since origin (Reported e ∷ history)) old new (status_fields old.status).count (status_fields old.status).overflow (since_unlogged origin history e unlogged) s.shows same (u.address ∙ cond-false _ _ _ none) (u.info ∙ cond-false _ _ _ none) (u.supplement ∙ cond-false _ _ _ none) (u.time ∙ cond-false _ _ _ none);
+          shows = shows_moved (since origin history) (since origin (Reported e ∷ history)) old new (status_fields old.status).in_progress (status_fields old.status).count (status_fields old.status).overflow (since_unlogged origin history e unlogged) s.shows same (u.address ∙ cond-false _ _ _ none) (u.info ∙ cond-false _ _ _ none) (u.supplement ∙ cond-false _ _ _ none) (u.time ∙ cond-false _ _ _ none);
           in_progress = ap (λ f. f.in_progress) same ∙ s.in_progress ∙ sym (in_progress_unlogged origin history e unlogged);
           count = ap (λ f. f.count) same ∙ s.count ∙ ap (λ k. k % 65536) (sym n);
           overflow = ap (λ f. f.overflow) same ∙ s.overflow ∙ ap (λ k. nat_lt 65535 k) (sym n);
@@ -253,7 +253,7 @@ module _ (origin : Origin) (history : List Event) (e : Error) (old new : RecordC
       record {
         stands = record {
           control = u.control ∙ s.control;
-          shows = shows_moved (since origin history) (since origin (Reported e ∷ history)) old new (fields.count + 1) fields.overflow (since_unlogged origin history e unlogged) s.shows same (u.address ∙ cond-false _ _ _ none) (u.info ∙ cond-false _ _ _ none) (u.supplement ∙ cond-false _ _ _ none) (u.time ∙ cond-false _ _ _ none);
+          shows = shows_moved (since origin history) (since origin (Reported e ∷ history)) old new fields.in_progress (fields.count + 1) fields.overflow (since_unlogged origin history e unlogged) s.shows same (u.address ∙ cond-false _ _ _ none) (u.info ∙ cond-false _ _ _ none) (u.supplement ∙ cond-false _ _ _ none) (u.time ∙ cond-false _ _ _ none);
           in_progress = ap (λ f. f.in_progress) same ∙ s.in_progress ∙ sym (in_progress_unlogged origin history e unlogged);
           count = ap (λ f. f.count) same ∙ ap (λ k. k + 1) s.count ∙ one_up c below ∙ ap (λ k. k % 65536) (sym n);
           overflow = ap (λ f. f.overflow) same ∙ s.overflow ∙ still_low c below ∙ ap (λ k. nat_lt 65535 k) (sym n);
