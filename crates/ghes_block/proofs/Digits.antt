@@ -1,5 +1,5 @@
 -- The digits of a number are the bytes that `byteorder` writes.
-use Rattle.std.proofs.Common.{◌≡◌, ℕ, zero, suc, ◌/◌, ◌%◌, ◌*◌, ◌^◌, List, ◌∷◌, refl, sym, ◌∙◌, ap}
+use Rattle.std.proofs.Common.{◌≡◌, ℕ, zero, suc, ◌/◌, ◌%◌, ◌^◌, ◌∷◌, refl, sym, ◌∙◌, ap}
 use Rattle.std.proofs.Math.Nat.{div-div-eq-div-mul, div-one, pow-suc}
 use Rattle.std.specs.Int.{byte_at, bytes_low_first}
 use Rattle.byteorder.specs.Endian.{little_bytes}
@@ -15,7 +15,7 @@ unfolding digits
 digits_from zero place number = refl
 digits_from (suc count) place number =
     let next : number / 256 ^ suc place ≡ number / 256 ^ place / 256 =
-        ap (λ n. number / n) (pow-suc 256 place) ∙ sym (div-div-eq-div-mul number (256 ^ place) 256) in
+    ap (λ n. number / n) (pow-suc 256 place) ∙ sym (div-div-eq-div-mul number (256 ^ place) 256) in
     ap (λ byte. byte ∷ bytes_low_first (suc place) count number) (byte_there place number)
     ∙ ap (λ rest. number / 256 ^ place % 256 ∷ rest) (digits_from count (suc place) number ∙ ap (λ n. digits count n) next)
 

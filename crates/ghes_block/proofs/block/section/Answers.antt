@@ -1,7 +1,7 @@
 -- The six words stand one behind the other, and they are all of the section.
-use Rattle.std.proofs.Common.{◌≡◌, ◌+◌, ◌++◌, take, length, ap, sym, ◌∙◌, arith}
+use Rattle.std.proofs.Common.{◌≡◌, take, arith}
 use Rattle.std.proofs.lemmas.List.{take_all}
-use Rattle.reri_fields.specs.Block.{section, digits}
+use Rattle.reri_fields.specs.Block.{section}
 use Rattle.ghes_block.proofs.block.section.Goals as goal
 
 pub returns : goal.returns
