@@ -8,10 +8,13 @@ ghost use Rattle.reri_fields.specs.Block.{IsCopy, Spells, block_status, entry, e
 use crate::parts::{put_bytes, put_u16, put_u32, put_u64, word_at};
 use reri_fields::{Control, RecordCopy, Severity, Status};
 
-/// The bytes of an error status block with one entry.
+/// The bytes of an error status block with one entry: a Generic Error Status Block of 20 bytes and a Generic Error Data
+/// Entry of 72 (ACPI 6.5, 18.3.2.7.1), and then the six registers of 8 bytes each (this project). Every number is
+/// little-endian.
 pub type Block = [u8; 140];
 
-/// Whether a block can hold the copy: it is valid, it has a severity, and no bit outside the fields of its words is set.
+/// Whether a block can hold the copy: it is valid, a severity bit is set, and no bit outside the fields of control and
+/// status is set (this project).
 pub fn is_copy(copy: &RecordCopy) -> bool
     ensures { IsTrue result ↔ IsCopy copy.now }
 {
@@ -54,11 +57,11 @@ fn header(copy: &RecordCopy) -> [u8; 20]
     ensures { result ≡ header (copy.now ∷ []) }
 {
     let mut out = [0; 20];
-    put_u32(&mut out, 0, block_status(copy));
-    put_u32(&mut out, 4, 0);
-    put_u32(&mut out, 8, 0);
-    put_u32(&mut out, 12, 120);
-    put_u32(&mut out, 16, error_severity(copy));
+    put_u32(&mut out, 0, block_status(copy)); // Block Status
+    put_u32(&mut out, 4, 0); // Raw Data Offset
+    put_u32(&mut out, 8, 0); // Raw Data Length
+    put_u32(&mut out, 12, 120); // Data Length
+    put_u32(&mut out, 16, error_severity(copy)); // Error Severity
     out
 }
 
@@ -83,20 +86,20 @@ fn entry(copy: &RecordCopy) -> [u8; 120]
     ensures { result ≡ entry copy.now }
 {
     let mut out = [0; 120];
-    put_bytes(&mut out, 0, b"RERI-RECORD-0001");
-    put_u32(&mut out, 16, error_severity(copy));
-    put_u16(&mut out, 20, 0x0300);
-    put_bytes(&mut out, 22, &[0; 1]);
-    put_bytes(&mut out, 23, &[0; 1]);
-    put_u32(&mut out, 24, 48);
-    put_bytes(&mut out, 28, &[0; 16]);
-    put_bytes(&mut out, 44, &[0; 20]);
-    put_bytes(&mut out, 64, &[0; 8]);
-    put_bytes(&mut out, 72, &section(copy));
+    put_bytes(&mut out, 0, b"RERI-RECORD-0001"); // Section Type
+    put_u32(&mut out, 16, error_severity(copy)); // Error Severity
+    put_u16(&mut out, 20, 0x0300); // Revision
+    put_bytes(&mut out, 22, &[0; 1]); // Validation Bits
+    put_bytes(&mut out, 23, &[0; 1]); // Flags
+    put_u32(&mut out, 24, 48); // Error Data Length
+    put_bytes(&mut out, 28, &[0; 16]); // FRU Id
+    put_bytes(&mut out, 44, &[0; 20]); // FRU Text
+    put_bytes(&mut out, 64, &[0; 8]); // Timestamp
+    put_bytes(&mut out, 72, &section(copy)); // Error Data
     out
 }
 
-/// The block that holds the copy.
+/// The block that holds the copy alone. It never refuses: ask `is_copy` first.
 #[tactic(auto, unfolding(reri_fields::specs::Block::spelling))]
 pub fn encode(copy: &RecordCopy) -> Block
     requires { IsCopy copy.now }
@@ -128,8 +131,9 @@ fn read_section(bytes: &[u8]) -> RecordCopy
     }
 }
 
-/// The copy that the bytes spell: Some of it exactly where they are the block that holds it alone, and None exactly
-/// where they are the block of no copy.
+/// The copy that the bytes spell: Some of it exactly where they are the block that holds it alone. None exactly where
+/// they are the block of no copy: another length, a field that is not what the registers make it (those that are 0
+/// too), or registers that no block can hold.
 pub fn decode(bytes: &[u8]) -> Option<RecordCopy>
     ensures { (copy : RecordCopy) → (result ≡ Some copy) ↔ Spells bytes.now (copy ∷ []) }
 {

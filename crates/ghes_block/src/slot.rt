@@ -5,7 +5,8 @@ ghost use Rattle.std.specs.Prelude.{◌≡◌, ◌↔◌, ℕ, List, Option, Som
 use crate::block::Block;
 use std::marker::Model;
 
-/// The place where a bank's block is published: free, or full with one block until it is acknowledged.
+/// The place where a bank's block is published: free, or full with one block until it is acknowledged (this project).
+/// In contracts it is None where it is free, and else Some of its bytes.
 #[derive(Debug, Drop)]
 pub struct Slot {
     block: Option<Block>,
@@ -27,12 +28,12 @@ impl Slot {
 
     /// Whether the slot is free.
     pub fn is_free(&self) -> bool
-        ensures { IsTrue result ↔ (self.now ≡ None) }
+        ensures { IsTrue result ↔ IsNone self.now }
     {
         self.block.is_none()
     }
 
-    /// Puts a block into a free slot, which is full from then on.
+    /// Puts a block into a free slot, which is full from then on. The block stays as it is until `acknowledge`.
     pub fn fill(&mut self, block: &Block)
         requires { IsNone self.old }
         ensures { self.new ≡ Some block.now }
