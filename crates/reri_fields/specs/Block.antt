@@ -81,7 +81,7 @@ section copy = digits 8 copy.control ++ digits 8 copy.status ++ digits 8 copy.ad
 -- Length, FRU Id, FRU Text, Timestamp, and the section
 unfoldable pub entry : RecordCopy → List ℕ
 entry copy =
-    section_type ++ digits 4 (error_severity (copy ∷ [])) ++ digits 2 0x0300 ++ digits 1 0 ++ digits 1 0 ++ digits 4 48
+    section_type ++ digits 4 (error_severity (copy ∷ [])) ++ digits 2 0x0300 ++ zeros 1 ++ zeros 1 ++ digits 4 48
     ++ zeros 16 ++ zeros 20 ++ zeros 8 ++ section copy
 
 unfoldable pub spelling : List RecordCopy → List ℕ

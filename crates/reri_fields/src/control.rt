@@ -7,7 +7,8 @@ ghost use Rattle.reri_fields.specs.Fields.{control_fields, control_spare, level_
 use crate::bits::{field, flag_at, with_field, with_flag_at};
 use crate::severity::Severity;
 
-/// The control word of an error record: what it logs, and how each severity is signalled.
+/// The control word of an error record: what it logs, and how each severity is signalled. The fields mean what RERI 1.0
+/// says of `control_i`; their places are this project's own.
 ///
 /// The setters take a value that fits its field, and leave every other bit as it was.
 #[derive(Clone, Copy, PartialEq, Eq, Debug, Drop)]

@@ -7,7 +7,8 @@ ghost use Rattle.reri_fields.specs.Fields.{status_fields, status_spare, greatest
 use crate::bits::{field, flag_at, with_field, with_flag_at};
 use crate::severity::Severity;
 
-/// The status word of an error record: whether it holds an error, and which.
+/// The status word of an error record: whether it holds an error, and which. The fields mean what RERI 1.0 says of
+/// `status_i`; their places, the count and its overflow are this project's own.
 ///
 /// The setters take a value that fits its field, and leave every other bit as it was.
 #[derive(Clone, Copy, PartialEq, Eq, Debug, Drop)]
