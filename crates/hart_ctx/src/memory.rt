@@ -98,4 +98,12 @@ impl Memory {
             self.words[start + i] = *word;
         }
     }
+
+    /// All words, from the lowest address on.
+    pub fn words(&self) -> &[u64]
+        ensures words { result.now ≡ self.now }
+        ensures count { length result.now ≡ 512 }
+    {
+        &self.words
+    }
 }
