@@ -1,3 +1,5 @@
+pub mod Again
 mod Glyphs
+mod Rows
 mod Splits
 mod Values
