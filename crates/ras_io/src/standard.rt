@@ -42,7 +42,7 @@ impl<R: Read + Drop> StdSource<R> {
     }
 }
 
-// the count of one read, or None where it failed
+// one read, made again where a signal interrupted it
 fn read_some<R: Read>(from: &mut R, buf: &mut [u8]) -> Result<usize, SourceFault>
     ensures bound { ReadsAtMost result buf.new }
     ensures bytes { ReadConsumes (R.remaining from.old) (R.remaining from.new) result buf.new }
@@ -171,7 +171,7 @@ impl<W: Write + Drop> StdSink<W> {
     }
 }
 
-// the count of one write, or 0 where it failed
+// how many bytes one write took, or 0 where it failed
 fn write_some<W: Write>(to: &mut W, bytes: &[u8]) -> usize
     ensures bound { result ≤ length bytes.now }
     ensures bytes { Appends (W.contents to.old) (W.contents to.new) (take result bytes.now) }

@@ -1,3 +1,6 @@
+pub mod Again
 mod Glyphs
+pub mod Joined
+mod Rows
 mod Splits
 mod Values

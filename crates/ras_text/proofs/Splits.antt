@@ -5,7 +5,7 @@ use Rattle.std.proofs.lemmas.List.{get_or-drop, length-drop}
 use Rattle.std.proofs.Math.ListN.{drop_of_length-le}
 use Rattle.std.proofs.Math.Seq.{drop-nil}
 use Rattle.std.specs.List.{onto_first, slice_split}
-use Rattle.ras_text.specs.Pieces.{is_blank, is_word, words, pieces, lines, without_return}
+use Rattle.ras_text.specs.Pieces.{is_blank, is_word, words, pieces, lines, without_return, after_newline}
 
 -- ---- words
 
@@ -104,3 +104,17 @@ first_piece (b ∷ c ∷ t) (suc j) some fits before at =
 pub first_line : (t : List ℕ) (j : ℕ) → 0 < length t → j ≤ length t → ((k : ℕ) → k < j → get_or t k 0 ≡ 10 → ⊥) → (j < length t → get_or t j 0 ≡ 10)
     → lines t ≡ without_return (take j t) ∷ lines (drop 1 (drop j t))
 first_line t j some fits before at = ap (map without_return) (first_piece t j some fits before at)
+
+-- the text after b and t
+abbrev after_head : List ℕ → Bool → List ℕ
+after_head t ends = cond ends t (after_newline t)
+
+-- the text after the first line
+pub after_line : (t : List ℕ) (j : ℕ) → j ≤ length t → ((k : ℕ) → k < j → get_or t k 0 ≡ 10 → ⊥) → (j < length t → get_or t j 0 ≡ 10)
+    → drop 1 (drop j t) ≡ after_newline t
+after_line [] zero fits before at = refl
+after_line [] (suc j) fits before at = absurd (omega arith)
+after_line (b ∷ t) zero fits before at = sym (ap (after_head t) (eq-eqb b 10 (at (omega arith))))
+after_line (b ∷ t) (suc j) fits before at =
+    after_line t j (omega arith) (λ k h. before (suc k) (omega arith)) (λ h. at (omega arith))
+    ∙ sym (ap (after_head t) (ne_eqb b 10 (before 0 (omega arith))))

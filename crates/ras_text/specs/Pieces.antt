@@ -15,6 +15,11 @@ without_return line = if slice_index line (length line - 1) == 13 then take (len
 abbrev pub lines : List ℕ → List (List ℕ)
 lines text = map without_return (pieces text)
 
+-- the text after its first newline, or nothing where there is none
+abbrev pub after_newline : List ℕ → List ℕ
+after_newline [] = []
+after_newline (b ∷ bs) = if b == 10 then bs else after_newline bs
+
 -- a space or a tab
 abbrev pub is_blank : ℕ → Bool
 is_blank b = b == 32 || b == 9

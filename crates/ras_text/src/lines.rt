@@ -1,6 +1,6 @@
 //! The lines of a text.
 ghost use Rattle.std.specs.Prelude.{◌≡◌, ℕ, ◌<◌, ◌≤◌, ◌≢◌, ◌∷◌, length, drop, slice_index};
-ghost use Rattle.ras_text.specs.Pieces.{lines, without_return};
+ghost use Rattle.ras_text.specs.Pieces.{after_newline, lines, without_return};
 
 // the place of the first newline, or the length where there is none
 fn newline_in(text: &[u8]) -> usize
@@ -38,10 +38,11 @@ fn cut_return(line: &[u8]) -> &[u8]
 
 /// The first line of a text, and the text after it. Lines end with a newline, or at the end of the
 /// text; a carriage return at the end of a line isn't part of it.
-#[tactic(auto, using(crate::proofs::Splits::first_line))]
+#[tactic(auto, using(crate::proofs::Splits::first_line, crate::proofs::Splits::after_line))]
 pub fn first_line(text: &[u8]) -> (&[u8], &[u8])
     requires { 0 < length text.now }
     ensures lines { lines text.now ≡ result.0.now ∷ lines result.1.now }
+    ensures rest { result.1.now ≡ after_newline text.now }
     ensures shorter { length result.1.now < length text.now }
 {
     let (line, rest) = text.split_at(newline_in(text));
