@@ -3,3 +3,4 @@ pub mod Stands
 pub mod Signalled
 pub mod Summaries
 pub mod Fresh
+mod WorkedBanks

@@ -1,10 +1,14 @@
 //! Banks at work: what a reader sees of each record, and calls that name nothing.
+ghost use Rattle.std.specs.Prelude.{◌<◌};
+
 use crate::access::Access;
 use crate::bank::Bank;
 use reri_fields::{Logged, Report, Severity};
 use std::test::Fail;
 
-fn corrected(rec: u8) -> Report {
+fn corrected(rec: u8) -> Report
+    ensures { result.priority < 4 }
+{
     Report {
         bank: 0,
         rec,
