@@ -3,5 +3,7 @@
 
 mod choice;
 mod targets;
+#[cfg(test)]
+mod tests;
 
 pub use targets::Targets;

@@ -55,6 +55,7 @@ impl Targets {
         requires table { length self.old ≡ _table.now.harts }
         ensures code { result ≡ (if is_masked hart self.old then SbiCode.AlreadyStopped else SbiCode.Success) }
         ensures masks { self.new ≡ (if is_masked hart self.old then self.old else slice_set self.old hart true) }
+        ensures harts { length self.new ≡ length self.old }
     {
         if self.masks[hart as usize] {
             return SbiCode::AlreadyStopped;
@@ -70,6 +71,7 @@ impl Targets {
         requires table { length self.old ≡ _table.now.harts }
         ensures code { result ≡ (if is_masked hart self.old then SbiCode.Success else SbiCode.AlreadyStarted) }
         ensures masks { self.new ≡ (if is_masked hart self.old then slice_set self.old hart false else self.old) }
+        ensures harts { length self.new ≡ length self.old }
     {
         if !self.masks[hart as usize] {
             return SbiCode::AlreadyStarted;
