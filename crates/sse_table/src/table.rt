@@ -111,6 +111,7 @@ impl Table {
             Err(SbiCode::NotSupported)
         }
     }
+
     /// How many instances the board has.
     #[tactic(auto, using(crate::proofs::Slots::slots_length))]
     pub fn instances(&self) -> u16
@@ -258,6 +259,7 @@ impl Table {
         let i = place(&self.instances, at);
         self.marks[i] = true;
     }
+
     /// Whether software may inject an instance.
     pub fn may_inject(&self, at: Instance) -> bool
         requires { IsOnBoard at self.now }
@@ -319,6 +321,7 @@ impl Table {
             SbiCode::Success
         }
     }
+
     /// Writes values to the attributes of an instance from `base` on, all at once; those of them that are
     /// no priority, oneshot mark or preferred hart are passed over.
     #[tactic(auto, using(crate::proofs::Checks::priority_fits, crate::proofs::Checks::preferred_fits))]
