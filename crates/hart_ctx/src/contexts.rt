@@ -112,6 +112,7 @@ impl Contexts {
             None => None,
         }
     }
+
     /// The handler with number `k`, where 0 is the oldest, and its INTERRUPTED attributes.
     #[tactic(auto, using(crate::proofs::Frames::frames_length, crate::proofs::Frames::running_at))]
     pub fn running(&self, k: usize) -> (Instance, Saved)
@@ -121,6 +122,7 @@ impl Contexts {
         let kept = &self.kept[self.kept.len() - 1 - k];
         (kept.at, kept.saved)
     }
+
     /// The registers.
     #[tactic(auto, using(crate::proofs::Frames::regs_again))]
     pub fn regs(&self) -> &Regs
@@ -145,6 +147,7 @@ impl Contexts {
     {
         place(self.kept.as_slice(), at) < self.kept.len()
     }
+
     /// INTERRUPTED attribute 6, 7, 8 or 9 of an event. None exactly where no handler of it runs here.
     #[tactic(auto, using(crate::proofs::Places::reads_kept, crate::proofs::Places::reads_none))]
     pub fn interrupted(&self, attr: u8, at: Instance) -> Option<u64>

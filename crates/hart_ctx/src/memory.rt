@@ -64,6 +64,7 @@ impl Memory {
         self.words[place] = value;
         Some(())
     }
+
     /// Whether `count` words stand in memory from the address `lo` on: `lo` is a multiple of 8, and no word
     /// is outside memory.
     pub fn are_words(lo: u64, count: u64) -> bool

@@ -48,5 +48,9 @@ pub fn word_for(attr: u8, base: u8, words: &[u64], old: u64) -> u64
         return old;
     }
     let place = (attr - base) as usize;
-    if place < words.len() { words[place] } else { old }
+    if place < words.len() {
+        words[place]
+    } else {
+        old
+    }
 }

@@ -1,3 +1,4 @@
--- What the start of a board keeps, and what places hold.
+-- What the start of a board keeps, what places hold, and what checked writes hold.
 pub mod Orders
 pub mod Slots
+pub mod Checks

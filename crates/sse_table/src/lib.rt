@@ -4,6 +4,9 @@
 mod instances;
 mod start;
 mod table;
+#[cfg(test)]
+mod tests;
+mod writes;
 
 pub use sse_base::{AttrRange, Event, EventDecl, Slot};
 pub use table::Table;

@@ -1,14 +1,17 @@
 //! The table.
 
-ghost use Rattle.std.specs.Prelude.{◌≡◌, ◌<◌, ◌≤◌, length, slice_get, IfOk, Some, true, false};
+ghost use Rattle.std.specs.Prelude.{◌≡◌, ◌<◌, ◌≤◌, ◌+◌, length, slice_get, IfOk, Some, true, false, [], ◌∷◌};
 ghost use Rattle.sse_base.specs.Codes.{is_success};
-ghost use Rattle.sse_base.specs.Events.{IsOnBoard, event, start_events, slots, signal, set_running, set_completed, is_enabled, is_running};
-ghost use Rattle.sse_base.specs.Calls.{find_instance, register, unregister, enable, disable};
+ghost use Rattle.sse_base.specs.Events.{IsOnBoard, change, event, start_events, slots, signal, set_running, set_completed, is_enabled, is_running};
+ghost use Rattle.sse_base.specs.Calls.{find_instance, register, unregister, enable, disable, attribute, check_write, state_number, some_word, is_refused_value, with_attributes};
 
 use crate::instances::{instance_of, place};
 use crate::start;
+use crate::writes::{some_never_written, some_refused_value, some_shut};
 use ras_io::NoMemory;
-use sse_base::{AttrRange, Event, EventClass, EventDecl, EventId, Instance, SbiCode, Slot, State};
+use sse_base::{
+    AttrRange, Event, EventClass, EventDecl, EventId, Instance, SbiCode, Slot, State, word_for,
+};
 use std::alloc::{AllocError, Global};
 use std::marker::Model;
 
@@ -27,16 +30,24 @@ impl Model for Table {
 
     ghost Value = { Events };
 
-    ghost view = {
-        λ t. record { harts = t.harts; instances = t.instances.items; each = t.each.items; marks = t.marks.items }
-    };
+    ghost view = { λ t. record { harts = t.harts; instances = t.instances.items; each = t.each.items; marks = t.marks.items } };
 
-    ghost invariant = {
-        λ t.
-            (length t.each.items ≡ length t.instances.items)
-            × (length t.marks.items ≡ length t.instances.items)
-            × (length t.instances.items ≤ 64)
-    };
+    ghost invariant = { λ t.
+        (length t.each.items ≡ length t.instances.items)
+        × (length t.marks.items ≡ length t.instances.items)
+        × (length t.instances.items ≤ 64) };
+}
+
+/// The number of a state in the attribute STATUS.
+fn number(state: State) -> u64
+    ensures { result ≡ state_number state }
+{
+    match state {
+        State::Unused => 0,
+        State::Registered => 1,
+        State::Enabled => 2,
+        State::Running => 3,
+    }
 }
 
 /// The table at the start of a board.
@@ -83,7 +94,8 @@ impl Table {
     /// parameter, and another one that isn't on the board is not supported (the order is this project's own).
     #[tactic(auto, unfolding(sse_base::specs::Calls::is_reserved))]
     pub fn find(&self, id: u64, hart: u8) -> Result<Instance, SbiCode>
-        ensures { result ≡ find_instance id hart self.now }
+        ensures found { result ≡ find_instance id hart self.now }
+        ensures on_board { IfOk result (λ at. IsOnBoard at self.now) }
     {
         if id > u32::MAX as u64 {
             return Err(SbiCode::InvalidParam);
@@ -99,6 +111,7 @@ impl Table {
             Err(SbiCode::NotSupported)
         }
     }
+
     /// How many instances the board has.
     #[tactic(auto, using(crate::proofs::Slots::slots_length))]
     pub fn instances(&self) -> u16
@@ -245,5 +258,94 @@ impl Table {
     {
         let i = place(&self.instances, at);
         self.marks[i] = true;
+    }
+
+    /// Whether software may inject an instance.
+    pub fn may_inject(&self, at: Instance) -> bool
+        requires { IsOnBoard at self.now }
+        ensures { result ≡ (event at self.now).inject }
+    {
+        self.each[place(&self.instances, at)].inject
+    }
+
+    /// The priority of an instance: the smaller, the more urgent.
+    pub fn priority(&self, at: Instance) -> u32
+        requires { IsOnBoard at self.now }
+        ensures { result ≡ (event at self.now).priority }
+    {
+        self.each[place(&self.instances, at)].priority
+    }
+
+    /// One of the first six attributes of an instance.
+    #[tactic(auto, unfolding(sse_base::specs::Calls::attribute))]
+    pub fn get_attr(&self, at: Instance, attr: u8) -> u64
+        requires on_board { IsOnBoard at self.now }
+        requires attribute { attr ≤ 5 }
+        ensures { result ≡ attribute attr at self.now }
+    {
+        let i = place(&self.instances, at);
+        let event = self.each[i];
+        match attr {
+            0 => number(event.state) + 4 * self.marks[i] as u64 + 8 * event.inject as u64,
+            1 => event.priority as u64,
+            2 => event.oneshot as u64,
+            3 => event.preferred as u64,
+            4 => event.entry,
+            _ => event.arg,
+        }
+    }
+
+    /// Whether these values can be written to a range of an instance's attributes: an attribute of it is
+    /// never written, or not now, or its value is refused, each of these over the whole range before the
+    /// next (the order is this project's own).
+    pub fn check_write(
+        &self,
+        at: Instance,
+        range: AttrRange,
+        values: &[u64],
+        running_here: bool,
+    ) -> SbiCode
+        requires on_board { IsOnBoard at self.now }
+        requires range { range.base + range.count ≤ 10 }
+        requires count { length values.now ≡ range.count }
+        ensures { result ≡ check_write range.base values.now at running_here self.now }
+    {
+        let state = self.each[place(&self.instances, at)].state;
+        if some_never_written(at, range) {
+            SbiCode::Denied
+        } else if some_shut(state, running_here, range) {
+            SbiCode::InvalidState
+        } else if some_refused_value(self.harts, range.base, values) {
+            SbiCode::InvalidParam
+        } else {
+            SbiCode::Success
+        }
+    }
+
+    /// Writes values to the attributes of an instance from `base` on, all at once; those of them that are
+    /// no priority, oneshot mark or preferred hart are passed over.
+    #[tactic(auto, using(crate::proofs::Checks::priority_fits, crate::proofs::Checks::preferred_fits))]
+    pub fn set_attrs(&mut self, at: Instance, base: u8, values: &[u64])
+        requires on_board { IsOnBoard at self.old }
+        requires accepted { some_word (is_refused_value self.old.harts) base values.now ≡ false }
+        ensures { self.new ≡ change at (with_attributes base values.now (event at self.old)) self.old }
+    {
+        let i = place(&self.instances, at);
+        let old = self.each[i];
+        let event = &mut self.each[i];
+        event.priority = word_for(1, base, values, old.priority as u64) as u32;
+        event.oneshot = word_for(2, base, values, old.oneshot as u64) == 1;
+        event.preferred = word_for(3, base, values, old.preferred as u64) as u8;
+    }
+
+    /// Writes a value to attribute 1, 2 or 3 of an instance: its priority, oneshot mark or preferred hart.
+    pub fn set_attr(&mut self, at: Instance, attr: u8, value: u64)
+        requires on_board { IsOnBoard at self.old }
+        requires first { 1 ≤ attr }
+        requires last { attr ≤ 3 }
+        requires accepted { is_refused_value self.old.harts attr value ≡ false }
+        ensures { self.new ≡ change at (with_attributes attr (value ∷ []) (event at self.old)) self.old }
+    {
+        self.set_attrs(at, attr, &[value]);
     }
 }

@@ -1,0 +1,79 @@
+//! The checks of a write of attributes, each over the whole range.
+
+ghost use Rattle.std.specs.Prelude.{◌≡◌, ◌≤◌, ◌+◌, length};
+ghost use Rattle.sse_base.specs.Calls.{is_never_written, is_shut, is_refused_value, some_attribute, some_word};
+
+use sse_base::{AttrRange, Instance, State};
+
+/// Whether an attribute of this event is never written.
+#[tactic(auto, unfolding(sse_base::specs::Calls::is_never_written))]
+fn is_never_written(at: Instance, attr: u8) -> bool
+    ensures { result ≡ is_never_written at attr }
+{
+    matches!(attr, 0 | 4 | 5) || (attr == 3 && matches!(at, Instance::Local { .. }))
+}
+
+/// Whether an attribute may not be written now.
+#[tactic(auto, unfolding(sse_base::specs::Calls::is_shut))]
+fn is_shut(state: State, running_here: bool, attr: u8) -> bool
+    ensures { result ≡ is_shut state running_here attr }
+{
+    let open = matches!(state, State::Unused | State::Registered);
+    (attr >= 1 && attr <= 3 && !open) || (attr >= 6 && !running_here)
+}
+
+/// Whether an attribute can't have this value on a board of so many harts.
+#[tactic(auto, unfolding(sse_base::specs::Calls::is_refused_value))]
+fn is_refused_value(harts: u8, attr: u8, value: u64) -> bool
+    ensures { result ≡ is_refused_value harts attr value }
+{
+    match attr {
+        1 => value > u32::MAX as u64,
+        2 => value > 1,
+        3 => value >= harts as u64,
+        7 => value > 3,
+        _ => false,
+    }
+}
+
+/// Whether an attribute of the range is never written for this event.
+#[tactic(auto, using(crate::proofs::Checks::one_more_attribute))]
+pub fn some_never_written(at: Instance, range: AttrRange) -> bool
+    requires { range.base + range.count ≤ 10 }
+    ensures { result ≡ some_attribute (is_never_written at) range.base range.count }
+{
+    for i in 0..range.count {
+        if is_never_written(at, range.base + i) {
+            return true;
+        }
+    }
+    false
+}
+
+/// Whether an attribute of the range may not be written now.
+#[tactic(auto, using(crate::proofs::Checks::one_more_attribute))]
+pub fn some_shut(state: State, running_here: bool, range: AttrRange) -> bool
+    requires { range.base + range.count ≤ 10 }
+    ensures { result ≡ some_attribute (is_shut state running_here) range.base range.count }
+{
+    for i in 0..range.count {
+        if is_shut(state, running_here, range.base + i) {
+            return true;
+        }
+    }
+    false
+}
+
+/// Whether an attribute from `base` on can't have its value.
+#[tactic(auto, using(crate::proofs::Checks::one_more_word))]
+pub fn some_refused_value(harts: u8, base: u8, values: &[u64]) -> bool
+    requires { base + length values.now ≤ 10 }
+    ensures { result ≡ some_word (is_refused_value harts) base values.now }
+{
+    for (i, value) in values.iter().enumerate() {
+        if is_refused_value(harts, base + i as u8, *value) {
+            return true;
+        }
+    }
+    false
+}

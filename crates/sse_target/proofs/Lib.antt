@@ -1,0 +1,2 @@
+-- The first unmasked hart, and the slots from one on.
+pub mod First
