@@ -1,0 +1,2 @@
+pub mod OpTables
+pub mod Runs

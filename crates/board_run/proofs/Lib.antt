@@ -1,0 +1,11 @@
+pub mod Naming
+pub mod Alone
+pub mod FirstOps
+pub mod Cuts
+pub mod Following
+pub mod Loops
+pub mod LineParts
+pub mod LineTexts
+pub mod Progress
+pub mod ReportLines
+pub mod Composed

@@ -1,0 +1,26 @@
+use Rattle.std.proofs.Common.{◌≡◌, ℕ, ◌+◌, ◌*◌, ◌-◌, ◌<◌, ◌≤◌, List, [], ◌∷◌, ◌++◌, map, drop, length, get_or, refl, sym, ap, ◌∙◌, arith}
+use Rattle.std.specs.List.{range_with_len}
+use Rattle.ras_io.proofs.Puts.{Puts-same}
+use Rattle.ras_text.specs.Lines.{text_of, sink_of}
+use Rattle.hart_ctx.specs.Running.{running_in}
+use Rattle.board_plan.specs.Text.{schedule_line, entries_of_line}
+use Rattle.board_run.proofs.Progress.{Progress, progress-start, progress-more, progress-fault, progress-end, progress-same}
+use Rattle.board_run.proofs.ReportLines.{word-next, words-end}
+use Rattle.board_run.proofs.report.write_words.Goals as goal
+
+pub returns-in-Err-clause-bytes : goal.returns-in-Err-clause-bytes
+returns-in-Err-clause-bytes g c =
+    progress-fault _ _ _ _ _ _ c.in-Err.fault
+    (progress-same _ _ _ _ _ (word-next 0x80000000 c.loop-i.i (get_or c.args.words.now c.loop-i.i 0) c.args.words.now (omega arith) refl) c.loop-i.invariant.progress)
+    c.in-Err.ensures.bytes
+
+pub loop-i-preserved : goal.loop-i-preserved
+loop-i-preserved g c =
+    record {
+      empty = c.in_default.ensures.empty;
+      progress = progress-more _ _ _ _ _ _ c.in_default.field-0
+          (progress-same _ _ _ _ _ (word-next 0x80000000 c.loop-i.i (get_or c.args.words.now c.loop-i.i 0) c.args.words.now (omega arith) refl) c.loop-i.invariant.progress)
+          c.in_default.ensures.bytes;
+      faults = c.in_default.ensures.cause.kept ∙ c.loop-i.invariant.faults;
+      same_sink = c.in_default.ensures.same_sink ∙ c.loop-i.invariant.same_sink;
+    }

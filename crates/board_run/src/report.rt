@@ -1,0 +1,261 @@
+//! Writes the report of a run.
+
+ghost use Rattle.std.specs.Prelude.{◌≡◌, ◌+◌, ◌*◌, ◌≤◌, ◌++◌, ◌∷◌, [], length, codes};
+ghost use Rattle.ras_io.specs.Causes.{HasCause, Puts};
+ghost use Rattle.ras_text.specs.Lines.{text_of, sink_of, SameSink};
+ghost use Rattle.board_plan.specs.Text.{
+  bytes_of,
+  head_line,
+  hart_line,
+  frame_lines,
+  event_line,
+  fates_line,
+  word_lines,
+  entries_of_line,
+  schedule_lines,
+  end_line,
+  full_lines,
+};
+ghost use Rattle.board_run.specs.Told.{report_of};
+
+use crate::lines::{
+    put_event, put_fates, put_frame, put_hart, put_head, put_memory_word, put_schedule,
+};
+use crate::machine::Machine;
+use board_plan::{Counts, Step};
+use hart_ctx::Contexts;
+use ras_io::{Sink, SinkFault};
+use ras_text::{Line, put_word};
+use sse_base::Slot;
+
+/// The handlers that run on a hart, from the oldest.
+fn write_frames<K: Sink>(
+    line: &mut Line<'_, K>,
+    hart: u64,
+    contexts: &Contexts,
+) -> Result<(), SinkFault>
+    requires { text_of line.old ≡ [] }
+    ensures empty { text_of line.new ≡ [] }
+    ensures bytes { Puts (K.written (sink_of line.old)) (K.written (sink_of line.new)) result
+        (bytes_of (frame_lines hart contexts.now.frames contexts.now.base)) }
+    ensures cause { HasCause (K.faults (sink_of line.old)) (K.faults (sink_of line.new)) result }
+    ensures same_sink { SameSink line.new line.old }
+{
+    for k in 0..contexts.depth() {
+        let (at, saved) = contexts.running(k);
+        put_frame(line, hart, k as u64 + 1, at, &saved);
+        if let Err(fault) = line.end() {
+            return Err(fault);
+        }
+    }
+    Ok(())
+}
+
+/// A word of memory, if it isn't 0.
+fn write_word<K: Sink>(line: &mut Line<'_, K>, addr: u64, word: u64) -> Result<(), SinkFault>
+    requires { text_of line.old ≡ [] }
+    ensures empty { text_of line.new ≡ [] }
+    ensures bytes { Puts (K.written (sink_of line.old)) (K.written (sink_of line.new)) result (bytes_of (word_lines addr (word ∷ []))) }
+    ensures cause { HasCause (K.faults (sink_of line.old)) (K.faults (sink_of line.new)) result }
+    ensures same_sink { SameSink line.new line.old }
+{
+    if word == 0 {
+        return Ok(());
+    }
+    put_memory_word(line, addr, word);
+    line.end()
+}
+
+/// The words of memory that aren't 0.
+fn write_words<K: Sink>(line: &mut Line<'_, K>, words: &[u64]) -> Result<(), SinkFault>
+    requires empty { text_of line.old ≡ [] }
+    requires few { length words.now ≤ 512 }
+    ensures empty { text_of line.new ≡ [] }
+    ensures bytes { Puts (K.written (sink_of line.old)) (K.written (sink_of line.new)) result
+        (bytes_of (word_lines 0x80000000 words.now)) }
+    ensures cause { HasCause (K.faults (sink_of line.old)) (K.faults (sink_of line.new)) result }
+    ensures same_sink { SameSink line.new line.old }
+{
+    for i in 0..words.len() {
+        if let Err(fault) = write_word(line, 0x8000_0000 + 8 * i as u64, words[i]) {
+            return Err(fault);
+        }
+    }
+    Ok(())
+}
+
+/// The entries of one line of the schedule.
+#[tactic(auto, unfolding(board_plan::specs::Text::entries_of_line))]
+fn entries_of(steps: &[Step], k: usize) -> &[Step]
+    requires { 16 * k ≤ length steps.now }
+    ensures entries { result.now ≡ entries_of_line steps.now k }
+    ensures few { length result.now ≤ 16 }
+{
+    let (_, rest) = steps.split_at(16 * k);
+    if rest.len() <= 16 {
+        return rest;
+    }
+    let (entries, _) = rest.split_at(16);
+    entries
+}
+
+/// The steps that were made.
+fn write_schedule<K: Sink>(line: &mut Line<'_, K>, steps: &[Step]) -> Result<(), SinkFault>
+    requires empty { text_of line.old ≡ [] }
+    requires few { length steps.now ≤ 160000 }
+    ensures empty { text_of line.new ≡ [] }
+    ensures bytes { Puts (K.written (sink_of line.old)) (K.written (sink_of line.new)) result
+        (bytes_of (schedule_lines steps.now)) }
+    ensures cause { HasCause (K.faults (sink_of line.old)) (K.faults (sink_of line.new)) result }
+    ensures same_sink { SameSink line.new line.old }
+{
+    let lines = ((steps.len() + 15) / 16).max(1);
+    for k in 0..lines {
+        put_schedule(line, entries_of(steps, k));
+        if let Err(fault) = line.end() {
+            return Err(fault);
+        }
+    }
+    Ok(())
+}
+
+/// What was made.
+fn write_head<K: Sink>(line: &mut Line<'_, K>, harts: u64, steps: u64) -> Result<(), SinkFault>
+    requires { text_of line.old ≡ [] }
+    ensures empty { text_of line.new ≡ [] }
+    ensures bytes { Puts (K.written (sink_of line.old)) (K.written (sink_of line.new)) result
+        (bytes_of (head_line harts steps ∷ [])) }
+    ensures cause { HasCause (K.faults (sink_of line.old)) (K.faults (sink_of line.new)) result }
+    ensures same_sink { SameSink line.new line.old }
+{
+    put_head(line, harts, steps);
+    line.end()
+}
+
+/// The line of a hart.
+fn write_hart<K: Sink>(
+    line: &mut Line<'_, K>,
+    hart: u64,
+    counts: &Counts,
+    masked: bool,
+    contexts: &Contexts,
+) -> Result<(), SinkFault>
+    requires { text_of line.old ≡ [] }
+    ensures empty { text_of line.new ≡ [] }
+    ensures bytes { Puts (K.written (sink_of line.old)) (K.written (sink_of line.new)) result
+        (bytes_of (hart_line hart counts.now masked contexts.now ∷ [])) }
+    ensures cause { HasCause (K.faults (sink_of line.old)) (K.faults (sink_of line.new)) result }
+    ensures same_sink { SameSink line.new line.old }
+{
+    put_hart(line, hart, counts, masked, contexts);
+    line.end()
+}
+
+/// The line of an instance.
+fn write_event<K: Sink>(line: &mut Line<'_, K>, slot: &Slot) -> Result<(), SinkFault>
+    requires { text_of line.old ≡ [] }
+    ensures empty { text_of line.new ≡ [] }
+    ensures bytes { Puts (K.written (sink_of line.old)) (K.written (sink_of line.new)) result
+        (bytes_of (event_line slot.now ∷ [])) }
+    ensures cause { HasCause (K.faults (sink_of line.old)) (K.faults (sink_of line.new)) result }
+    ensures same_sink { SameSink line.new line.old }
+{
+    put_event(line, slot);
+    line.end()
+}
+
+/// The fates of errors, of which there are none yet.
+fn write_fates<K: Sink>(line: &mut Line<'_, K>) -> Result<(), SinkFault>
+    requires { text_of line.old ≡ [] }
+    ensures empty { text_of line.new ≡ [] }
+    ensures bytes { Puts (K.written (sink_of line.old)) (K.written (sink_of line.new)) result
+        (bytes_of (fates_line ∷ [])) }
+    ensures cause { HasCause (K.faults (sink_of line.old)) (K.faults (sink_of line.new)) result }
+    ensures same_sink { SameSink line.new line.old }
+{
+    put_fates(line);
+    line.end()
+}
+
+/// The last line.
+fn write_end<K: Sink>(line: &mut Line<'_, K>) -> Result<(), SinkFault>
+    requires { text_of line.old ≡ [] }
+    ensures empty { text_of line.new ≡ [] }
+    ensures bytes { Puts (K.written (sink_of line.old)) (K.written (sink_of line.new)) result
+        (bytes_of (end_line ∷ [])) }
+    ensures cause { HasCause (K.faults (sink_of line.old)) (K.faults (sink_of line.new)) result }
+    ensures same_sink { SameSink line.new line.old }
+{
+    put_word(line, b"end");
+    line.end()
+}
+
+/// The lines of a report, by what it tells of.
+fn write_parts<K: Sink>(
+    line: &mut Line<'_, K>,
+    counts: &Counts,
+    masked: bool,
+    contexts: &Contexts,
+    slot: &Slot,
+    words: &[u64],
+    steps: &[Step],
+) -> Result<(), SinkFault>
+    requires empty { text_of line.old ≡ [] }
+    requires few_words { length words.now ≤ 512 }
+    requires few_steps { length steps.now ≤ 160000 }
+    ensures bytes { Puts (K.written (sink_of line.old)) (K.written (sink_of line.new)) result
+        (report_of counts.now masked contexts.now slot.now words.now steps.now) }
+    ensures cause { HasCause (K.faults (sink_of line.old)) (K.faults (sink_of line.new)) result }
+    ensures same_sink { SameSink line.new line.old }
+{
+    write_head(line, 1, steps.len() as u64)?;
+    write_hart(line, 0, counts, masked, contexts)?;
+    write_frames(line, 0, contexts)?;
+    write_event(line, slot)?;
+    write_fates(line)?;
+    write_words(line, words)?;
+    write_schedule(line, steps)?;
+    write_end(line)
+}
+
+/// The lines of a board's report.
+#[tactic(auto, using(crate::proofs::ReportLines::order))]
+fn write_lines<K: Sink>(
+    line: &mut Line<'_, K>,
+    machine: &Machine,
+    steps: &[Step],
+) -> Result<(), SinkFault>
+    requires empty { text_of line.old ≡ [] }
+    requires few { length steps.now ≤ 160000 }
+    ensures bytes { Puts (K.written (sink_of line.old)) (K.written (sink_of line.new)) result
+        (bytes_of (full_lines 1 machine.now steps.now)) }
+    ensures cause { HasCause (K.faults (sink_of line.old)) (K.faults (sink_of line.new)) result }
+    ensures same_sink { SameSink line.new line.old }
+{
+    let slot = machine.slot();
+    let words = machine.memory().words();
+    write_parts(
+        line,
+        machine.counts(),
+        machine.is_masked(),
+        machine.contexts(),
+        &slot,
+        words,
+        steps,
+    )
+}
+
+/// Writes the full report of a board after these steps. SinkFault comes only where the sink's count rose in
+/// this call; then a front of the report was appended.
+pub(crate) fn write_report<K: Sink>(
+    machine: &Machine,
+    steps: &[Step],
+    sink: &mut K,
+) -> Result<(), SinkFault>
+    requires { length steps.now ≤ 160000 }
+    ensures bytes { Puts (K.written sink.old) (K.written sink.new) result (bytes_of (full_lines 1 machine.now steps.now)) }
+    ensures cause { HasCause (K.faults sink.old) (K.faults sink.new) result }
+{
+    let mut line = Line::new(sink);
+    write_lines(&mut line, machine, steps)
+}

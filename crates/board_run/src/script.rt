@@ -1,0 +1,16 @@
+//! What a script of the first form states.
+
+ghost use Rattle.std.specs.Prelude.{◌≡◌, ◌≤◌, true};
+ghost use Rattle.board_run.specs.OneHart.{are_first};
+
+use board_plan::OpTable;
+
+/// The ops, where the hart begins, and how many steps it may make.
+#[derive(Drop)]
+pub(crate) struct Script {
+    pub(crate) ops: OpTable,
+    pub(crate) pc: u64,
+    pub(crate) budget: u16,
+    ghost first_ops: { are_first ops ≡ true },
+    ghost small_budget: { budget ≤ 10000 },
+}
