@@ -1,6 +1,6 @@
 -- Scripts of the first form: one hart with one event, and lines in a fixed order. This project's own.
 -- Each line ends with a newline, and one space parts the fields of a line. First `board 1 1`, then
--- `event 0xffff0000 inject`, then any number of lines `at ADDR`, `op inc ADDR` and `op sbi 0x535345 F A0 .. A4`, and
+-- `event 0xffff0000 inject`, then any number of lines `at ADDR`, `op inc ADDR` and `op sbi EID FID A0 .. A4`, and
 -- last `start 0 PC BUDGET`.
 use Rattle.std.specs.Prelude.{◌≡◌, ℕ, ◌+◌, ◌%◌, ◌==◌, ◌&&◌, not, nat_lt, nat_le, Bool, true, false, if◌then◌else◌, List, [], ◌∷◌, ◌++◌, length, slice_get, Option, Some, None, option_and_then, codes, bytes_eq}
 use Rattle.std.specs.List.{slice_split}
@@ -64,16 +64,6 @@ inc_line h (addr ∷ []) = do
   placed h (Inc n)
 inc_line h words = None
 
--- one of the functions 2, 4, 6, 7 and 8
-unfoldable pub function_of : List ℕ → Option ℕ
-function_of word =
-    if bytes_eq word (codes "2") then Some 2
-    else (if bytes_eq word (codes "4") then Some 4
-    else (if bytes_eq word (codes "6") then Some 6
-    else (if bytes_eq word (codes "7") then Some 7
-    else (if bytes_eq word (codes "8") then Some 8
-    else None))))
-
 -- an argument, which is 0 where it is missing
 abbrev pub argument : Option (List ℕ) → Option ℕ
 argument None = Some 0
@@ -82,7 +72,7 @@ argument (Some word) = number word
 unfoldable pub argument_at : List (List ℕ) → ℕ → Option ℕ
 argument_at words i = argument (slice_get words i)
 
--- `op sbi 0x535345 F A0 .. A4`
+-- up to five arguments
 unfoldable pub arguments : List (List ℕ) → Option (List ℕ)
 arguments words = do
   _ ← only_if (nat_le (length words) 5)
@@ -93,12 +83,13 @@ arguments words = do
   e ← argument_at words 4
   Some (a ∷ b ∷ c ∷ d ∷ e ∷ [])
 
+-- `op sbi EID FID A0 .. A4`
 unfoldable pub sbi_line : Half → List (List ℕ) → Option Half
 sbi_line h (extension ∷ function ∷ words) = do
-  _ ← only_if (bytes_eq extension (codes "0x535345"))
-  f ← function_of function
+  eid ← number extension
+  fid ← number function
   args ← arguments words
-  placed h (Sbi 0x535345 f args)
+  placed h (Sbi eid fid args)
 sbi_line h words = None
 
 unfoldable pub op_line : Half → List (List ℕ) → Option Half

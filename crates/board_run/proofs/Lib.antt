@@ -1,6 +1,3 @@
-pub mod Naming
-pub mod Alone
-pub mod FirstOps
 pub mod Cuts
 pub mod Following
 pub mod Loops
@@ -9,3 +6,4 @@ pub mod LineTexts
 pub mod Progress
 pub mod ReportLines
 pub mod Composed
+pub mod Placing

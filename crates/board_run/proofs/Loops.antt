@@ -1,15 +1,12 @@
 -- The rounds of a board of one hart.
 use Rattle.std.proofs.Common.{◌≡◌, ℕ, zero, suc, ◌<◌, ◌≤◌, List, [], ◌∷◌, ◌++◌, map, length, Option, Some, None, refl, sym, ap, ◌∙◌, arith, ◌+◌, Bool, true, false, length-append, append-nil, below_more, subst, is_some, IfSome, IfNone}
-use Rattle.sse_base.specs.Ids.{is_global}
-use Rattle.sse_base.specs.Events.{fresh_event}
-use Rattle.sse_base.specs.Contexts.{fresh_stack}
-use Rattle.sse_base.specs.Words.{fresh_memory}
+use Rattle.sbi_sse.specs.Start.{start_machine}
 use Rattle.board_plan.specs.declared.notes.Step.{Step}
 use Rattle.board_plan.specs.declared.notes.Step.TheVariants.{Hart}
 use Rattle.board_plan.specs.declared.notes.StepNote.{StepNote}
 use Rattle.board_plan.specs.declared.ops.Placed.{Placed}
 use Rattle.board_plan.specs.declared.plan.Plan.{Plan}
-use Rattle.board_plan.specs.FirstForm.{first_plan}
+use Rattle.board_plan.specs.FirstForm.{first_plan, software_event}
 use Rattle.board_plan.specs.Step.{BoardState, Stepped, step, hart_step, start_state, no_counts}
 use Rattle.board_plan.specs.Run.{Noted, state_after, noted, run, notes, rounds, round, steps_made, IsFirstIdle, AreTries}
 use Rattle.board_plan.proofs.Runs.{run-append, notes-append}
@@ -17,8 +14,7 @@ use Rattle.board_run.specs.OneHart.{board_of, stepped}
 use Rattle.board_run.specs.Rounds.{IsAfter, IsRun}
 
 -- the board at its start
-pub start_state-first : (ops : List Placed) (pc budget : ℕ) → start_state (first_plan ops pc budget) ≡ board_of (fresh_event true 0) false true (fresh_stack pc) fresh_memory no_counts
-unfolding is_global
+pub start_state-first : (ops : List Placed) (pc budget : ℕ) → start_state (first_plan ops pc budget) ≡ board_of (start_machine 1 (software_event ∷ []) (pc ∷ [])) no_counts
 start_state-first ops pc budget = refl
 
 module _ (ops : List Placed) (pc budget : ℕ) where
@@ -80,7 +76,7 @@ module _ (ops : List Placed) (pc budget : ℕ) where
       }
 
   -- the same of what the machine's calls say
-  pub run-started : (s : BoardState) (steps : List Step) → s ≡ board_of (fresh_event true 0) false true (fresh_stack pc) fresh_memory no_counts → steps ≡ [] → IsAfter plan s steps (length steps)
+  pub run-started : (s : BoardState) (steps : List Step) → s ≡ board_of (start_machine 1 (software_event ∷ []) (pc ∷ [])) no_counts → steps ≡ [] → IsAfter plan s steps (length steps)
   run-started s steps e f =
       subst (λ (ts : List Step). IsAfter plan s ts (length ts)) (sym f) (subst (λ (t : BoardState). IsAfter plan t [] 0) (start_state-first ops pc budget ∙ sym e) after-start)
 

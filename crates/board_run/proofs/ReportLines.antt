@@ -1,6 +1,6 @@
 -- The lines of a report, one after another.
 use Rattle.std.proofs.Math.Seq.{drop-nil}
-use Rattle.std.proofs.Common.{◌≡◌, ℕ, zero, suc, ◌+◌, ◌-◌, ◌≤◌, get_or, ◌*◌, ◌<◌, ◌==◌, Bool, true, false, cond, List, [], ◌∷◌, ◌++◌, map, length, take, drop, Option, Some, None, refl, sym, ap, ◌∙◌, append_assoc, append-nil, length-append, arith, slice_get}
+use Rattle.std.proofs.Common.{◌≡◌, ℕ, zero, suc, ◌+◌, ◌-◌, ◌≤◌, get_or, ◌*◌, ◌<◌, ◌==◌, Bool, true, false, cond, List, [], ◌∷◌, ◌++◌, map, length, take, drop, Option, Some, None, refl, sym, ap, ◌∙◌, append_assoc, append-nil, length-append, arith, slice_get, slice_index_or}
 use Rattle.std.proofs.lemmas.Bool.Decides.{nat_tests}
 use Rattle.std.specs.List.{range_with_len}
 use Rattle.sse_base.specs.declared.ids.Instance.{Instance}
@@ -8,12 +8,14 @@ use Rattle.sse_base.specs.Contexts.{Frame, Triple, below}
 use Rattle.hart_ctx.specs.declared.regs.Saved.{Saved}
 use Rattle.hart_ctx.specs.Running.{told_by, running_in}
 use Rattle.sse_base.specs.declared.events.Slot.{Slot}
-use Rattle.sse_base.specs.Events.{slots}
-use Rattle.sse_base.specs.Contexts.{Stack}
+use Rattle.sse_base.specs.Events.{Events, slots}
+use Rattle.sse_base.specs.Contexts.{Stack, fresh_stack}
+use Rattle.sse_base.specs.Machine.{Machine, stack_of}
+use Rattle.sse_base.specs.Choice.{is_masked}
 use Rattle.board_plan.specs.declared.notes.Counts.{Counts}
 use Rattle.board_plan.specs.declared.notes.Step.{Step}
 use Rattle.board_plan.specs.Step.{BoardState}
-use Rattle.board_plan.specs.Text.{bytes_of, head_line, hart_line, frame_line, frame_lines, event_line, fates_line, word_line, word_lines, schedule_lines, end_line, full_lines}
+use Rattle.board_plan.specs.Text.{bytes_of, head_line, hart_line, hart_lines, frame_line, frame_lines, event_line, fates_line, word_line, word_lines, schedule_lines, end_line, full_lines}
 use Rattle.board_run.specs.Told.{told_line, told_lines, report_of}
 
 pub bytes_of-append : (xs ys : List (List ℕ)) → bytes_of (xs ++ ys) ≡ bytes_of xs ++ bytes_of ys
@@ -108,30 +110,50 @@ entries-next f k n h = ap bytes_of (range-at f k n h) ∙ line-first (f k) (map 
 pub entries-end : (f : ℕ → List ℕ) (k n : ℕ) → n ≤ k → bytes_of (map f (range_with_len k (n - k))) ≡ []
 entries-end f k n h = ap bytes_of (range-past f k n h)
 
+-- an instance, and the instances after it
+pub events-next : (i : ℕ) (ss : List Slot) (s : Slot) → slice_get ss i ≡ Some s → bytes_of (map event_line (drop i ss)) ≡ (event_line s ++ 10 ∷ []) ++ bytes_of (map event_line (drop (i + 1) ss))
+events-next i [] s e = cc
+events-next zero (x ∷ ss) s e = let same : x ≡ s = cc in line-first (event_line x) (map event_line ss) ∙ ap (λ (y : Slot). (event_line y ++ 10 ∷ []) ++ bytes_of (map event_line ss)) same
+events-next (suc i) (x ∷ ss) s e = let next : suc i + 1 ≡ suc (i + 1) = omega arith in rw next (events-next i ss s e)
+
+pub events-end : (i : ℕ) (ss : List Slot) → length ss ≤ i → bytes_of (map event_line (drop i ss)) ≡ []
+events-end i [] e = rw drop-nil
+events-end zero (s ∷ ss) e = absurd (omega (arith, e))
+events-end (suc i) (s ∷ ss) e = events-end i ss (omega (arith, e))
+
 -- the order of a report's parts
-parts : (a b : List ℕ) (cs : List (List ℕ)) (d e : List ℕ) (ws ss : List (List ℕ)) (h : List ℕ) →
-    bytes_of ((((((a ∷ []) ++ ((b ∷ cs) ++ [])) ++ d ∷ []) ++ e ∷ []) ++ ws) ++ ss ++ h ∷ [])
-    ≡ bytes_of (a ∷ []) ++ (bytes_of (b ∷ []) ++ (bytes_of cs ++ (bytes_of (d ∷ []) ++ (bytes_of (e ∷ []) ++ (bytes_of ws ++ (bytes_of ss ++ bytes_of (h ∷ [])))))))
-parts a b cs d e ws ss h =
+parts : (a b : List ℕ) (cs ds : List (List ℕ)) (e : List ℕ) (ws ss : List (List ℕ)) (h : List ℕ) →
+    bytes_of ((((((a ∷ []) ++ ((b ∷ cs) ++ [])) ++ ds) ++ e ∷ []) ++ ws) ++ ss ++ h ∷ [])
+    ≡ bytes_of (a ∷ []) ++ (bytes_of (b ∷ []) ++ (bytes_of cs ++ (bytes_of ds ++ (bytes_of (e ∷ []) ++ (bytes_of ws ++ (bytes_of ss ++ bytes_of (h ∷ [])))))))
+parts a b cs ds e ws ss h =
     let tail : List (List ℕ) = ws ++ (ss ++ h ∷ []) in
-    let same : (((((a ∷ []) ++ ((b ∷ cs) ++ [])) ++ d ∷ []) ++ e ∷ []) ++ ws) ++ ss ++ h ∷ [] ≡ a ∷ b ∷ (cs ++ (d ∷ e ∷ tail)) = simp (append-nil, append_assoc) in
+    let same : (((((a ∷ []) ++ ((b ∷ cs) ++ [])) ++ ds) ++ e ∷ []) ++ ws) ++ ss ++ h ∷ [] ≡ a ∷ b ∷ (cs ++ (ds ++ (e ∷ tail))) = simp (append-nil, append_assoc) in
     ap bytes_of same
-    ∙ line-first a (b ∷ (cs ++ (d ∷ e ∷ tail)))
+    ∙ line-first a (b ∷ (cs ++ (ds ++ (e ∷ tail))))
     ∙ ap (λ (x : List ℕ). bytes_of (a ∷ []) ++ x)
-    (line-first b (cs ++ (d ∷ e ∷ tail))
+    (line-first b (cs ++ (ds ++ (e ∷ tail)))
     ∙ ap (λ (x : List ℕ). bytes_of (b ∷ []) ++ x)
-    (bytes_of-append cs (d ∷ e ∷ tail)
+    (bytes_of-append cs (ds ++ (e ∷ tail))
     ∙ ap (λ (x : List ℕ). bytes_of cs ++ x)
-    (line-first d (e ∷ tail)
-    ∙ ap (λ (x : List ℕ). bytes_of (d ∷ []) ++ x)
+    (bytes_of-append ds (e ∷ tail)
+    ∙ ap (λ (x : List ℕ). bytes_of ds ++ x)
     (line-first e tail
     ∙ ap (λ (x : List ℕ). bytes_of (e ∷ []) ++ x)
     (bytes_of-append ws (ss ++ h ∷ []) ∙ ap (λ (x : List ℕ). bytes_of ws ++ x) (bytes_of-append ss (h ∷ [])))))))
 
-pub report-order : (s : BoardState) (steps : List Step) (c : Counts) (masked : Bool) (stack : Stack) (slot : Slot) (words : List ℕ) →
-    s.counts ≡ c ∷ [] → s.machine.masks ≡ masked ∷ [] → s.machine.stacks ≡ stack ∷ [] → slots s.machine.events ≡ slot ∷ [] → words ≡ s.machine.memory →
-    report_of c masked stack slot words steps ≡ bytes_of (full_lines 1 s steps)
-report-order s steps c masked stack slot words p q r t u =
-    rw (p, q, r, t, u) (sym (parts (head_line 1 (length steps)) (hart_line 0 c masked stack) (frame_lines 0 stack.frames stack.base) (event_line slot) fates_line (word_lines 0x80000000 s.machine.memory) (schedule_lines steps) end_line))
+-- the lines of the one hart
+one-hart : (c : Counts) (masks : List Bool) (stacks : List Stack) → length masks ≡ 1 → length stacks ≡ 1 →
+    hart_lines 0 (c ∷ []) masks stacks ≡ (hart_line 0 c (slice_index_or masks 0 true) (slice_index_or stacks 0 (fresh_stack 0)) ∷ frame_lines 0 (slice_index_or stacks 0 (fresh_stack 0)).frames (slice_index_or stacks 0 (fresh_stack 0)).base) ++ []
+one-hart c [] stacks p q = absurd (omega (arith, p))
+one-hart c (m ∷ ms) [] p q = absurd (omega (arith, q))
+one-hart c (m ∷ []) (s ∷ []) p q = refl
+one-hart c (m ∷ n ∷ ms) (s ∷ ss) p q = absurd (omega (arith, p))
+one-hart c (m ∷ []) (s ∷ t ∷ ss) p q = absurd (omega (arith, q))
 
-pub ruleset order = (report-order)
+pub report-order : (s : BoardState) (m : Machine) (steps : List Step) (c : Counts) (masked : Bool) (masks : List Bool) (events : Events) (words memory : List ℕ) →
+    m ≡ s.machine → s.counts ≡ c ∷ [] → masks ≡ m.masks → masked ≡ is_masked 0 masks → events ≡ m.events → memory ≡ m.memory → words ≡ memory →
+    length m.masks ≡ 1 → length m.stacks ≡ 1 → report_of c masked (stack_of 0 m) events words steps ≡ bytes_of (full_lines 1 s steps)
+report-order s m steps c masked masks events words memory k p t u e f w q r =
+    rw (w, f, e, u, t, k) (sym (ap (λ (hs : List (List ℕ)). bytes_of (((((head_line 1 (length steps) ∷ []) ++ hs ++ map event_line (slots s.machine.events)) ++ fates_line ∷ []) ++ word_lines 0x80000000 s.machine.memory) ++ schedule_lines steps ++ end_line ∷ []))
+    (ap (λ (cs : List Counts). hart_lines 0 cs s.machine.masks s.machine.stacks) p ∙ one-hart c s.machine.masks s.machine.stacks (ap (λ (n : Machine). length n.masks) (sym k) ∙ q) (ap (λ (n : Machine). length n.stacks) (sym k) ∙ r))
+    ∙ parts (head_line 1 (length steps)) (hart_line 0 c (is_masked 0 s.machine.masks) (stack_of 0 s.machine)) (frame_lines 0 (stack_of 0 s.machine).frames (stack_of 0 s.machine).base) (map event_line (slots s.machine.events)) fates_line (word_lines 0x80000000 s.machine.memory) (schedule_lines steps) end_line))

@@ -1,9 +1,9 @@
 //! The top call: plays a script and writes its report.
 #![tactic(auto)]
 
+mod board;
 mod fields;
 mod lines;
-mod machine;
 mod playing;
 mod reading;
 mod report;

@@ -14,15 +14,17 @@ ghost use Rattle.board_plan.specs.Text.{
   schedule_line,
 };
 ghost use Rattle.sse_base.specs.Calls.{state_number};
+ghost use Rattle.sse_base.specs.Machine.{stack_of};
 ghost use Rattle.board_run.specs.Told.{told_line};
 
 use crate::fields::{
     put_bit_field, put_context, put_counts, put_dec_field, put_hex_field, put_word_field,
 };
 use board_plan::{Counts, Step};
-use hart_ctx::{Contexts, Saved};
+use hart_ctx::Saved;
 use ras_io::Sink;
 use ras_text::{Line, put_dec, put_hex, put_word};
+use sbi_sse::Firmware;
 use sse_base::{Instance, Slot, State};
 
 /// What was made, on which board.
@@ -45,23 +47,24 @@ pub(crate) fn put_head<K: Sink>(line: &mut Line<'_, K>, harts: u64, steps: u64)
 #[tactic(auto, using(crate::proofs::LineTexts::hart), unfolding(board_plan::specs::Text::hart_line))]
 pub(crate) fn put_hart<K: Sink>(
     line: &mut Line<'_, K>,
-    hart: u64,
+    hart: u8,
     counts: &Counts,
     masked: bool,
-    contexts: &Contexts,
+    firmware: &Firmware,
 )
-    requires { text_of line.old ≡ [] }
-    ensures text { text_of line.new ≡ hart_line hart counts.now masked contexts.now }
+    requires empty { text_of line.old ≡ [] }
+    requires hart { hart < firmware.now.events.harts }
+    ensures text { text_of line.new ≡ hart_line hart counts.now masked (stack_of hart firmware.now) }
     ensures room { length (text_of line.new) ≤ 512 }
     ensures sink { sink_of line.new ≡ sink_of line.old }
     ensures same_sink { SameSink line.new line.old }
 {
     put_word(line, b"hart ");
-    put_dec(line, hart);
+    put_dec(line, u64::from(hart));
     put_dec_field(line, b"steps", u64::from(counts.steps));
     put_bit_field(line, b"masked", masked);
-    put_context(line, contexts.regs());
-    put_dec_field(line, b"depth", contexts.depth() as u64);
+    put_context(line, firmware.regs(hart));
+    put_dec_field(line, b"depth", firmware.depth(hart) as u64);
     put_counts(line, counts);
 }
 

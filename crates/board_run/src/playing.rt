@@ -77,10 +77,10 @@ pub fn play<S: Source, K: Sink>(
         }
         Err(ReadFault::NoMemory) => return Status::NoMemory,
     };
-    let Ok((machine, steps)) = play_rounds(alloc, &script) else {
+    let Ok((board, steps)) = play_rounds(alloc, &script) else {
         return Status::NoMemory;
     };
-    if write_report(&machine, steps.as_slice(), sink).is_err() {
+    if write_report(&board, steps.as_slice(), sink).is_err() {
         return Status::WriteFault;
     }
     Status::Ok

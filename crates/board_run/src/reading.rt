@@ -1,6 +1,6 @@
 //! Reads a script of the first form.
 
-ghost use Rattle.std.specs.Prelude.{◌≡◌, ◌≢◌, ℕ, ◌<◌, ◌≤◌, [], ◌∷◌, length, drop, slice_index, bytes_eq, true, OnOk, IfOk, IfNone, IfSome};
+ghost use Rattle.std.specs.Prelude.{◌≡◌, ◌≢◌, ℕ, ◌<◌, ◌≤◌, [], ◌∷◌, length, drop, slice_index, bytes_eq, true, OnOk, IfNone, IfSome};
 ghost use Rattle.std.specs.List.{slice_split};
 ghost use Rattle.board_plan.specs.FirstForm.{
   Half as HalfRead,
@@ -10,7 +10,6 @@ ghost use Rattle.board_plan.specs.FirstForm.{
   placed,
   at_line,
   inc_line,
-  function_of,
   argument_at,
   arguments,
   sbi_line,
@@ -24,7 +23,6 @@ ghost use Rattle.board_plan.specs.FirstForm.{
   first_form,
 };
 ghost use Rattle.ras_text.specs.Numbers.{number};
-ghost use Rattle.board_run.specs.OneHart.{is_first_function, is_first_op, are_first};
 ghost use Rattle.board_run.specs.Reading.{texts, Gives, GivesPlan, Moves};
 
 use crate::script::Script;
@@ -51,8 +49,6 @@ impl From<NoMemory> for ReadFault {
         ReadFault::NoMemory
     }
 }
-
-const EXTENSION: u64 = 0x535345;
 
 fn is(word: &[u8], keyword: &[u8]) -> bool
     ensures { result ≡ bytes_eq word.now keyword.now }
@@ -127,29 +123,6 @@ fn is_address(n: u64) -> bool
     n % 2 == 0 && n <= 0xffff0000
 }
 
-#[tactic(auto, unfolding(board_plan::specs::FirstForm::function_of))]
-fn function_of(word: &[u8]) -> Result<u64, ReadFault>
-    ensures gives { Gives result (function_of word.now) }
-    ensures first { IfOk result (λ fid. is_first_function fid ≡ true) }
-{
-    if is(word, b"2") {
-        return Ok(2);
-    }
-    if is(word, b"4") {
-        return Ok(4);
-    }
-    if is(word, b"6") {
-        return Ok(6);
-    }
-    if is(word, b"7") {
-        return Ok(7);
-    }
-    if is(word, b"8") {
-        return Ok(8);
-    }
-    Err(ReadFault::NotFirstForm)
-}
-
 #[tactic(auto, unfolding(board_plan::specs::FirstForm::argument_at))]
 fn argument_at(words: &[&[u8]], i: usize) -> Result<u64, ReadFault>
     ensures { Gives result (argument_at (texts words.now) i) }
@@ -183,19 +156,17 @@ struct Half {
 }
 
 impl Model for Half {
-    ghost use Rattle.std.specs.Prelude.{◌≡◌, ℕ, ◌+◌, ◌*◌, ◌≤◌, true, length};
+    ghost use Rattle.std.specs.Prelude.{ℕ, ◌+◌, ◌*◌, ◌≤◌, length};
     ghost use Rattle.board_plan.specs.FirstForm.{Half as HalfRead};
-    ghost use Rattle.board_run.specs.OneHart.{are_first};
 
     ghost Value = { HalfRead };
 
     ghost view = { λ h. record { ops = h.ops; next = h.next } };
 
-    ghost invariant = { λ h. (length h.ops ≤ 4096) × (h.next ≤ 0xffff0000 + 4 * length h.ops) × (are_first h.ops ≡ true) };
+    ghost invariant = { λ h. (length h.ops ≤ 4096) × (h.next ≤ 0xffff0000 + 4 * length h.ops) };
 }
 
 impl Half {
-    #[tactic(auto, using(crate::proofs::FirstOps::first_ops))]
     fn new(alloc: Global) -> Half
         ensures { result ≡ begun }
     {
@@ -205,9 +176,8 @@ impl Half {
         }
     }
 
-    #[tactic(auto, using(crate::proofs::FirstOps::first_ops), unfolding(board_plan::specs::FirstForm::placed))]
+    #[tactic(auto, unfolding(board_plan::specs::FirstForm::placed))]
     fn place(&mut self, op: Op) -> Result<(), ReadFault>
-        requires { is_first_op op ≡ true }
         ensures { Moves result self.new (placed self.old op) }
     {
         if self.ops.get(self.next).is_some() {
@@ -236,7 +206,7 @@ impl Half {
         Ok(())
     }
 
-    #[tactic(auto, unfolding(board_plan::specs::FirstForm::inc_line, crate::specs::OneHart::is_first_op))]
+    #[tactic(auto, unfolding(board_plan::specs::FirstForm::inc_line))]
     fn inc_line(&mut self, words: &[&[u8]]) -> Result<(), ReadFault>
         ensures { Moves result self.new (inc_line self.old (texts words.now)) }
     {
@@ -247,23 +217,17 @@ impl Half {
         self.place(Op::Inc { addr })
     }
 
-    #[tactic(auto, unfolding(board_plan::specs::FirstForm::sbi_line, crate::specs::OneHart::is_first_op))]
+    #[tactic(auto, unfolding(board_plan::specs::FirstForm::sbi_line))]
     fn sbi_line(&mut self, words: &[&[u8]]) -> Result<(), ReadFault>
         ensures { Moves result self.new (sbi_line self.old (texts words.now)) }
     {
         let [extension, function, words @ ..] = words else {
             return Err(ReadFault::NotFirstForm);
         };
-        if !is(extension, b"0x535345") {
-            return Err(ReadFault::NotFirstForm);
-        }
-        let fid = function_of(function)?;
+        let eid = number_of(extension)?;
+        let fid = number_of(function)?;
         let args = arguments(words)?;
-        self.place(Op::Sbi {
-            eid: EXTENSION,
-            fid,
-            args,
-        })
+        self.place(Op::Sbi { eid, fid, args })
     }
 
     #[tactic(auto, unfolding(board_plan::specs::FirstForm::op_line))]

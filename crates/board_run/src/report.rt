@@ -1,6 +1,6 @@
 //! Writes the report of a run.
 
-ghost use Rattle.std.specs.Prelude.{◌≡◌, ◌+◌, ◌*◌, ◌≤◌, ◌++◌, ◌∷◌, [], length, codes};
+ghost use Rattle.std.specs.Prelude.{◌≡◌, ◌*◌, ◌<◌, ◌≤◌, ◌∷◌, [], length, map};
 ghost use Rattle.ras_io.specs.Causes.{HasCause, Puts};
 ghost use Rattle.ras_text.specs.Lines.{text_of, sink_of, SameSink};
 ghost use Rattle.board_plan.specs.Text.{
@@ -16,34 +16,56 @@ ghost use Rattle.board_plan.specs.Text.{
   end_line,
   full_lines,
 };
+ghost use Rattle.sse_base.specs.Events.{slots};
+ghost use Rattle.sse_base.specs.Machine.{stack_of};
 ghost use Rattle.board_run.specs.Told.{report_of};
 
+use crate::board::Board;
 use crate::lines::{
     put_event, put_fates, put_frame, put_hart, put_head, put_memory_word, put_schedule,
 };
-use crate::machine::Machine;
 use board_plan::{Counts, Step};
-use hart_ctx::Contexts;
 use ras_io::{Sink, SinkFault};
 use ras_text::{Line, put_word};
-use sse_base::Slot;
+use sbi_sse::Firmware;
+use sse_table::Table;
 
 /// The handlers that run on a hart, from the oldest.
 fn write_frames<K: Sink>(
     line: &mut Line<'_, K>,
-    hart: u64,
-    contexts: &Contexts,
+    hart: u8,
+    firmware: &Firmware,
 ) -> Result<(), SinkFault>
-    requires { text_of line.old ≡ [] }
+    requires empty { text_of line.old ≡ [] }
+    requires hart { hart < firmware.now.events.harts }
     ensures empty { text_of line.new ≡ [] }
     ensures bytes { Puts (K.written (sink_of line.old)) (K.written (sink_of line.new)) result
-        (bytes_of (frame_lines hart contexts.now.frames contexts.now.base)) }
+        (bytes_of (frame_lines hart (stack_of hart firmware.now).frames (stack_of hart firmware.now).base)) }
     ensures cause { HasCause (K.faults (sink_of line.old)) (K.faults (sink_of line.new)) result }
     ensures same_sink { SameSink line.new line.old }
 {
-    for k in 0..contexts.depth() {
-        let (at, saved) = contexts.running(k);
-        put_frame(line, hart, k as u64 + 1, at, &saved);
+    for k in 0..firmware.depth(hart) {
+        let (at, saved) = firmware.running(hart, k);
+        put_frame(line, hart as u64, k as u64 + 1, at, &saved);
+        if let Err(fault) = line.end() {
+            return Err(fault);
+        }
+    }
+    Ok(())
+}
+
+/// The instances, in order.
+fn write_events<K: Sink>(line: &mut Line<'_, K>, table: &Table) -> Result<(), SinkFault>
+    requires { text_of line.old ≡ [] }
+    ensures empty { text_of line.new ≡ [] }
+    ensures bytes { Puts (K.written (sink_of line.old)) (K.written (sink_of line.new)) result
+        (bytes_of (map event_line (slots table.now))) }
+    ensures cause { HasCause (K.faults (sink_of line.old)) (K.faults (sink_of line.new)) result }
+    ensures same_sink { SameSink line.new line.old }
+{
+    for i in 0..table.instances() {
+        let slot = table.slot(i);
+        put_event(line, &slot);
         if let Err(fault) = line.end() {
             return Err(fault);
         }
@@ -135,32 +157,20 @@ fn write_head<K: Sink>(line: &mut Line<'_, K>, harts: u64, steps: u64) -> Result
 /// The line of a hart.
 fn write_hart<K: Sink>(
     line: &mut Line<'_, K>,
-    hart: u64,
+    hart: u8,
     counts: &Counts,
     masked: bool,
-    contexts: &Contexts,
+    firmware: &Firmware,
 ) -> Result<(), SinkFault>
-    requires { text_of line.old ≡ [] }
+    requires empty { text_of line.old ≡ [] }
+    requires hart { hart < firmware.now.events.harts }
     ensures empty { text_of line.new ≡ [] }
     ensures bytes { Puts (K.written (sink_of line.old)) (K.written (sink_of line.new)) result
-        (bytes_of (hart_line hart counts.now masked contexts.now ∷ [])) }
+        (bytes_of (hart_line hart counts.now masked (stack_of hart firmware.now) ∷ [])) }
     ensures cause { HasCause (K.faults (sink_of line.old)) (K.faults (sink_of line.new)) result }
     ensures same_sink { SameSink line.new line.old }
 {
-    put_hart(line, hart, counts, masked, contexts);
-    line.end()
-}
-
-/// The line of an instance.
-fn write_event<K: Sink>(line: &mut Line<'_, K>, slot: &Slot) -> Result<(), SinkFault>
-    requires { text_of line.old ≡ [] }
-    ensures empty { text_of line.new ≡ [] }
-    ensures bytes { Puts (K.written (sink_of line.old)) (K.written (sink_of line.new)) result
-        (bytes_of (event_line slot.now ∷ [])) }
-    ensures cause { HasCause (K.faults (sink_of line.old)) (K.faults (sink_of line.new)) result }
-    ensures same_sink { SameSink line.new line.old }
-{
-    put_event(line, slot);
+    put_hart(line, hart, counts, masked, firmware);
     line.end()
 }
 
@@ -195,23 +205,24 @@ fn write_parts<K: Sink>(
     line: &mut Line<'_, K>,
     counts: &Counts,
     masked: bool,
-    contexts: &Contexts,
-    slot: &Slot,
+    firmware: &Firmware,
+    table: &Table,
     words: &[u64],
     steps: &[Step],
 ) -> Result<(), SinkFault>
     requires empty { text_of line.old ≡ [] }
+    requires one { firmware.now.events.harts ≡ 1 }
     requires few_words { length words.now ≤ 512 }
     requires few_steps { length steps.now ≤ 160000 }
     ensures bytes { Puts (K.written (sink_of line.old)) (K.written (sink_of line.new)) result
-        (report_of counts.now masked contexts.now slot.now words.now steps.now) }
+        (report_of counts.now masked (stack_of 0 firmware.now) table.now words.now steps.now) }
     ensures cause { HasCause (K.faults (sink_of line.old)) (K.faults (sink_of line.new)) result }
     ensures same_sink { SameSink line.new line.old }
 {
     write_head(line, 1, steps.len() as u64)?;
-    write_hart(line, 0, counts, masked, contexts)?;
-    write_frames(line, 0, contexts)?;
-    write_event(line, slot)?;
+    write_hart(line, 0, counts, masked, firmware)?;
+    write_frames(line, 0, firmware)?;
+    write_events(line, table)?;
     write_fates(line)?;
     write_words(line, words)?;
     write_schedule(line, steps)?;
@@ -219,27 +230,28 @@ fn write_parts<K: Sink>(
 }
 
 /// The lines of a board's report.
-#[tactic(auto, using(crate::proofs::ReportLines::order))]
 fn write_lines<K: Sink>(
     line: &mut Line<'_, K>,
-    machine: &Machine,
+    board: &Board,
     steps: &[Step],
 ) -> Result<(), SinkFault>
     requires empty { text_of line.old ≡ [] }
     requires few { length steps.now ≤ 160000 }
     ensures bytes { Puts (K.written (sink_of line.old)) (K.written (sink_of line.new)) result
-        (bytes_of (full_lines 1 machine.now steps.now)) }
+        (bytes_of (full_lines 1 board.now steps.now)) }
     ensures cause { HasCause (K.faults (sink_of line.old)) (K.faults (sink_of line.new)) result }
     ensures same_sink { SameSink line.new line.old }
 {
-    let slot = machine.slot();
-    let words = machine.memory().words();
+    let firmware = board.firmware();
+    let _harts = firmware.harts();
+    let masked = firmware.targets().is_masked(0);
+    let words = firmware.memory().words();
     write_parts(
         line,
-        machine.counts(),
-        machine.is_masked(),
-        machine.contexts(),
-        &slot,
+        board.counts(),
+        masked,
+        firmware,
+        firmware.table(),
         words,
         steps,
     )
@@ -248,14 +260,14 @@ fn write_lines<K: Sink>(
 /// Writes the full report of a board after these steps. SinkFault comes only where the sink's count rose in
 /// this call; then a front of the report was appended.
 pub(crate) fn write_report<K: Sink>(
-    machine: &Machine,
+    board: &Board,
     steps: &[Step],
     sink: &mut K,
 ) -> Result<(), SinkFault>
     requires { length steps.now ≤ 160000 }
-    ensures bytes { Puts (K.written sink.old) (K.written sink.new) result (bytes_of (full_lines 1 machine.now steps.now)) }
+    ensures bytes { Puts (K.written sink.old) (K.written sink.new) result (bytes_of (full_lines 1 board.now steps.now)) }
     ensures cause { HasCause (K.faults sink.old) (K.faults sink.new) result }
 {
     let mut line = Line::new(sink);
-    write_lines(&mut line, machine, steps)
+    write_lines(&mut line, board, steps)
 }

@@ -1,7 +1,6 @@
 //! What a script of the first form states.
 
-ghost use Rattle.std.specs.Prelude.{◌≡◌, ◌≤◌, true};
-ghost use Rattle.board_run.specs.OneHart.{are_first};
+ghost use Rattle.std.specs.Prelude.{◌≤◌};
 
 use board_plan::OpTable;
 
@@ -11,6 +10,5 @@ pub(crate) struct Script {
     pub(crate) ops: OpTable,
     pub(crate) pc: u64,
     pub(crate) budget: u16,
-    ghost first_ops: { are_first ops ≡ true },
     ghost small_budget: { budget ≤ 10000 },
 }

@@ -1,6 +1,7 @@
 use Rattle.std.proofs.Common.{◌≡◌, ℕ, ◌+◌, ◌*◌, ◌-◌, ◌<◌, ◌≤◌, List, [], ◌∷◌, ◌++◌, map, drop, length, get_or, refl, sym, ap, ◌∙◌, arith}
 use Rattle.std.specs.List.{range_with_len}
 use Rattle.ras_io.proofs.Puts.{Puts-same}
+use Rattle.sse_base.specs.Machine.{stack_of}
 use Rattle.ras_text.specs.Lines.{text_of, sink_of}
 use Rattle.hart_ctx.specs.Running.{running_in}
 use Rattle.board_plan.specs.Text.{schedule_line, entries_of_line}
@@ -10,9 +11,9 @@ use Rattle.board_run.proofs.report.write_frames.Goals as goal
 
 pub loop-k-init : goal.loop-k-init
 loop-k-init g c =
-    let s = c.args.contexts.now in
+    let s = stack_of c.args.hart c.args.firmware.now in
     record {
-      empty = c.requires;
+      empty = c.requires.empty;
       progress = progress-same _ _ _ _ _ (frames-start c.args.hart s.frames s.base) (progress-start _ _);
       faults = refl;
       same_sink = refl;
@@ -20,7 +21,7 @@ loop-k-init g c =
 
 pub returns-in-Err-clause-bytes : goal.returns-in-Err-clause-bytes
 returns-in-Err-clause-bytes g c =
-    let s = c.args.contexts.now in
+    let s = stack_of c.args.hart c.args.firmware.now in
     let w = g.K.Sink.written in
     progress-fault _ _ _ _ _ _ c.in-Err.fault
     (progress-same _ _ _ _ _ (frame-next c.args.hart c.loop-k.k (running_in s.frames s.base) c.running-at.result c.running-at.ensures) c.loop-k.invariant.progress)
@@ -28,7 +29,7 @@ returns-in-Err-clause-bytes g c =
 
 pub loop-k-preserved : goal.loop-k-preserved
 loop-k-preserved g c =
-    let s = c.args.contexts.now in
+    let s = stack_of c.args.hart c.args.firmware.now in
     let w = g.K.Sink.written in
     record {
       empty = c.in_default.ensures.empty;
@@ -41,5 +42,5 @@ loop-k-preserved g c =
 
 pub returns-clause-bytes : goal.returns-clause-bytes
 returns-clause-bytes g c =
-    let s = c.args.contexts.now in
+    let s = stack_of c.args.hart c.args.firmware.now in
     progress-end _ _ _ _ (progress-same _ _ _ _ _ (frames-end c.args.hart c.loop-k.k s.frames s.base (omega (arith, c.depth-k-end.ensures.depth))) c.loop-k.invariant.progress)

@@ -1,9 +1,7 @@
-use Rattle.std.proofs.Common.{◌≡◌, ◌∷◌, arith, length-append, ap, subst, sym}
-use Rattle.board_run.specs.OneHart.{are_first}
-use Rattle.board_run.proofs.FirstOps.{are_first-more}
+use Rattle.std.proofs.Common.{◌≡◌, ◌∷◌, arith, length-append}
 use Rattle.board_run.proofs.reading.Half.place.Goals as goal
 
 pub invariant_of-self-2 : goal.invariant_of-self-2
 invariant_of-self-2 c =
     let e = c.in_ok-add.ensures.ok in
-    rw e (simp length-append (omega (arith, c.self.invariant.0)), simp length-append (omega (arith, c.self.invariant.1)), are_first-more _ _ c.self.invariant.2 c.requires)
+    rw e (simp length-append (omega (arith, c.self.invariant.0)), simp length-append (omega (arith, c.self.invariant.1)))

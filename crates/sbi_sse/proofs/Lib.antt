@@ -1,0 +1,8 @@
+-- Why the firmware's parts keep together what they keep.
+pub mod Places
+pub mod Counting
+pub mod Keeps
+pub mod Chosen
+pub mod Fresh
+pub mod Injects
+pub mod Gathered

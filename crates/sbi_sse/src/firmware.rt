@@ -1,0 +1,247 @@
+//! The firmware: what it keeps, and all but its calls.
+
+mod calls;
+
+ghost use Rattle.std.specs.Prelude.{◌≡◌, ◌<◌, ◌≤◌, ◌+◌, ℕ, length, true, false, slice_set, slice_get, take, IfOk, MatchOption, is_some, unwrap_or};
+ghost use Rattle.sse_base.specs.Codes.{is_success};
+ghost use Rattle.sse_base.specs.Events.{IsOnBoard, signal};
+ghost use Rattle.sse_base.specs.Contexts.{with_pc};
+ghost use Rattle.sse_base.specs.Words.{load, store, is_word};
+ghost use Rattle.sse_base.specs.Machine.{Machine, reach, placed, stack_of};
+ghost use Rattle.sse_base.specs.Choice.{next_for, top_urgency};
+ghost use Rattle.sse_base.specs.Calls.{call, function, read, reads, read_attrs, write_attrs, delivered};
+ghost use Rattle.hart_ctx.specs.Registers.{regs_of, with_regs};
+ghost use Rattle.hart_ctx.specs.Running.{running_in};
+ghost use Rattle.std.specs.Borrow.{sem};
+ghost use Rattle.sbi_sse.specs.Lending.{LendsMemory};
+ghost use Rattle.sbi_sse.specs.Start.{are_distinct, start_machine};
+
+use crate::parts::{CallNote, interrupted, note, stacks};
+use hart_ctx::{Contexts, Memory, Regs, Saved};
+use ras_io::NoMemory;
+use sse_base::{AttrRange, EventDecl, EventId, Instance, RangeFault, Reply, SbiCode, attr_range};
+use sse_table::Table;
+use sse_target::Targets;
+use std::alloc::Global;
+use std::marker::Model;
+
+/// The extension id of supervisor software events.
+const EXTENSION: u64 = 0x53_5345;
+
+/// The firmware of a board: its events, which harts are masked, what each hart runs, and memory.
+#[derive(Drop)]
+pub struct Firmware {
+    table: Table,
+    targets: Targets,
+    stacks: Vec<Contexts>,
+    memory: Memory,
+}
+
+impl Model for Firmware {
+    ghost use Rattle.sse_base.specs.Machine.{Machine};
+
+    ghost Value = { Machine };
+
+    ghost view = { λ f. record { events = f.table; masks = f.targets; stacks = f.stacks.items; memory = f.memory } };
+
+    ghost use Rattle.sbi_sse.specs.Kept.{IsKept};
+
+    ghost invariant = { λ f. IsKept f.table f.targets f.stacks.items };
+}
+
+impl Firmware {
+    /// The firmware of a board of so many harts at its start, each at its own place: nobody has used an
+    /// event, and each hart is masked. `NoMemory` comes where no room was found.
+    pub fn new(
+        alloc: Global,
+        harts: u8,
+        events: &[EventDecl],
+        starts: &[u64],
+    ) -> Result<Firmware, NoMemory>
+        requires harts { harts ≤ 8 }
+        requires events { length events.now ≤ 8 }
+        requires distinct { are_distinct events.now ≡ true }
+        requires starts { length starts.now ≡ harts }
+        ensures { IfOk result (λ f. f ≡ start_machine harts events.now starts.now) }
+    {
+        let table = Table::new(alloc, harts, events)?;
+        let stacks = match stacks(alloc, starts) {
+            Ok(stacks) => stacks,
+            Err(_) => return Err(NoMemory),
+        };
+        Ok(Firmware {
+            table,
+            targets: Targets::new(harts),
+            stacks,
+            memory: Memory::new(),
+        })
+    }
+
+    /// How many harts the board has: each has a stack and a mask.
+    pub fn harts(&self) -> u8
+        ensures harts { result ≡ self.now.events.harts }
+        ensures stacks { length self.now.stacks ≡ result }
+        ensures masks { length self.now.masks ≡ result }
+    {
+        self.table.harts()
+    }
+
+    /// The registers of a hart.
+    pub fn regs(&self, hart: u8) -> &Regs
+        requires { hart < self.now.events.harts }
+        ensures { result.now ≡ regs_of (stack_of hart self.now) }
+    {
+        self.stacks[hart as usize].regs()
+    }
+
+    /// How many handlers run on a hart.
+    pub fn depth(&self, hart: u8) -> usize
+        requires { hart < self.now.events.harts }
+        ensures depth { result ≡ length (stack_of hart self.now).frames }
+        ensures at_most_eight { result ≤ 8 }
+    {
+        self.stacks[hart as usize].depth()
+    }
+
+    /// The handler with number `k` of a hart, where 0 is the oldest, and its INTERRUPTED attributes.
+    pub fn running(&self, hart: u8, k: usize) -> (Instance, Saved)
+        requires hart { hart < self.now.events.harts }
+        requires handler { k < length (stack_of hart self.now).frames }
+        ensures { slice_get (running_in (stack_of hart self.now).frames (stack_of hart self.now).base) k ≡ Some result }
+    {
+        self.stacks[hart as usize].running(k)
+    }
+
+    /// The events.
+    pub fn table(&self) -> &Table
+        ensures { result.now ≡ self.now.events }
+    {
+        &self.table
+    }
+
+    /// Which harts are masked.
+    pub fn targets(&self) -> &Targets
+        ensures { result.now ≡ self.now.masks }
+    {
+        &self.targets
+    }
+
+    /// The memory.
+    pub fn memory(&self) -> &Memory
+        ensures { result.now ≡ self.now.memory }
+    {
+        &self.memory
+    }
+
+    /// The memory, to be written; all else stays.
+    pub fn memory_mut(&mut self) -> &mut Memory
+        ensures* lends { sem 𝓛 (LendsMemory self.entry result) }
+        ensures value { result.now ≡ self.old.memory }
+    {
+        &mut self.memory
+    }
+
+    /// Writes the word at an address; all but memory stays. None exactly where the address is no multiple of
+    /// 8 or is outside memory; then nothing changes.
+    pub fn store(&mut self, addr: u64, value: u64) -> Option<()>
+        ensures stored { is_some result ≡ is_word addr }
+        ensures next { self.new ≡ record self.old { memory = unwrap_or (store self.old.memory addr value) self.old.memory } }
+    {
+        self.memory.store(addr, value)
+    }
+
+    /// Makes an instance pending, in whatever state it is; all else stays.
+    #[tactic(auto, using(crate::proofs::Keeps::mark_keeps))]
+    pub fn signal(&mut self, at: Instance)
+        requires { IsOnBoard at self.old.events }
+        ensures { self.new ≡ record self.old { events = signal at self.old.events } }
+    {
+        self.table.signal(at);
+    }
+
+    /// Makes these the registers of a hart: what is live, and the triple that the running code sees in
+    /// `sepc`, `spp` and `spie`. All else stays.
+    pub fn set_regs(&mut self, hart: u8, regs: &Regs)
+        requires { hart < self.old.events.harts }
+        ensures { self.new ≡ record self.old { stacks = slice_set self.old.stacks hart (with_regs regs.now (stack_of hart self.old)) } }
+    {
+        let stack = &mut self.stacks[hart as usize];
+        stack.set_regs(regs);
+    }
+
+    /// How urgent the newest handler of a hart is.
+    fn top(&self, hart: u8) -> Option<(u32, EventId)>
+        requires { hart < self.now.events.harts }
+        ensures { result ≡ top_urgency (stack_of hart self.now).frames self.now.events }
+    {
+        match self.stacks[hart as usize].newest() {
+            Some(at) => Some((self.table.priority(at), at.id())),
+            None => None,
+        }
+    }
+
+    /// Delivers the event that is next on a hart: the most urgent one that waits for it, where that is
+    /// strictly more urgent than what runs. None exactly where there is none; then nothing changes (SBI 3.0,
+    /// "Supervisor Software Events", event priority, software event delivery).
+    #[tactic(auto, unfolding(sse_base::specs::Calls::attribute))]
+    pub fn deliver(&mut self, hart: u8) -> Option<Instance>
+        requires { hart < self.old.events.harts }
+        ensures which { result ≡ next_for hart (reach hart self.old) }
+        ensures next { MatchOption result (self.new ≡ self.old) (λ at. self.new ≡ placed hart (delivered hart at (reach hart self.old)) self.old) }
+        ensures harts { self.new.events.harts ≡ self.old.events.harts }
+        ensures instances { self.new.events.instances ≡ self.old.events.instances }
+    {
+        let top = self.top(hart);
+        let at = match self.targets.chosen(hart, top, &self.table) {
+            Some(at) => at,
+            None => return None,
+        };
+        let entry = self.table.get_attr(at, 4);
+        let arg = self.table.get_attr(at, 5);
+        self.table.set_running(at);
+        let stack = &mut self.stacks[hart as usize];
+        stack.deliver(at, entry, arg, hart);
+        Some(at)
+    }
+
+    /// A call of a hart, with its extension id, function number and arguments (SBI 3.0, "Supervisor Software
+    /// Events"; the order of the checks is this project's own). An unknown extension or function is not
+    /// supported, and so is an event that isn't on the board; the other codes are those of the functions. A
+    /// call that isn't answered with success changes nothing.
+    pub fn call(&mut self, hart: u8, eid: u64, fid: u64, args: [u64; 5]) -> CallNote
+        requires { hart < self.old.events.harts }
+        ensures code { result.reply.error ≡ (call hart eid fid args self.old.stacks (reach hart self.old)).code }
+        ensures value { result.reply.value ≡ 0 }
+        ensures written { result.written ≡ (call hart eid fid args self.old.stacks (reach hart self.old)).written }
+        ensures next { self.new ≡ placed hart (call hart eid fid args self.old.stacks (reach hart self.old)).reach self.old }
+        ensures refused { is_success result.reply.error ≡ false → self.new ≡ self.old }
+        ensures harts { self.new.events.harts ≡ self.old.events.harts }
+        ensures instances { self.new.events.instances ≡ self.old.events.instances }
+    {
+        if eid != EXTENSION {
+            return note(SbiCode::NotSupported);
+        }
+        match fid {
+            0 => self.read_attrs(hart, args),
+            1 => self.write_attrs(hart, args),
+            2 => self.register(hart, args),
+            3 => self.unregister(hart, args),
+            4 => self.enable(hart, args),
+            5 => self.disable(hart, args),
+            6 => self.complete(hart),
+            7 => self.inject(hart, args),
+            8 => self.unmask(hart),
+            9 => self.mask(hart),
+            _ => note(SbiCode::NotSupported),
+        }
+    }
+
+    /// Goes on with a hart at another place; all else stays.
+    pub fn set_pc(&mut self, hart: u8, pc: u64)
+        requires { hart < self.old.events.harts }
+        ensures { self.new ≡ record self.old { stacks = slice_set self.old.stacks hart (with_pc pc (stack_of hart self.old)) } }
+    {
+        let stack = &mut self.stacks[hart as usize];
+        stack.set_pc(pc);
+    }
+}

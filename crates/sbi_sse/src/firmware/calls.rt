@@ -1,0 +1,300 @@
+//! The ten calls.
+
+ghost use Rattle.std.specs.Prelude.{◌≡◌, ◌<◌, ◌≤◌, ◌+◌, ℕ, length, true, false, take, [], ◌∷◌};
+ghost use Rattle.sse_base.specs.Codes.{is_success};
+ghost use Rattle.sse_base.specs.Events.{IsOnBoard};
+ghost use Rattle.sse_base.specs.Machine.{Machine, reach, placed};
+ghost use Rattle.sse_base.specs.Words.{are_words, words_at};
+ghost use Rattle.sse_base.specs.Calls.{function, argument, read, reads, read_attrs, write_words};
+
+use crate::firmware::Firmware;
+use crate::parts::{CallNote, elsewhere, interrupted, note};
+use hart_ctx::Memory;
+use sse_base::{AttrRange, Instance, RangeFault, Reply, SbiCode, attr_range};
+
+impl Firmware {
+    /// Registers an event with where its handler begins and its argument.
+    #[tactic(auto, using(crate::proofs::Places::stays))]
+    pub(super) fn register(&mut self, hart: u8, args: [u64; 5]) -> CallNote
+        requires { hart < self.old.events.harts }
+        ensures code { result.reply.error ≡ (function hart 2 args self.old.stacks (reach hart self.old)).code }
+        ensures value { result.reply.value ≡ 0 }
+        ensures written { result.written ≡ (function hart 2 args self.old.stacks (reach hart self.old)).written }
+        ensures next { self.new ≡ placed hart (function hart 2 args self.old.stacks (reach hart self.old)).reach self.old }
+        ensures refused { is_success result.reply.error ≡ false → self.new ≡ self.old }
+        ensures harts { self.new.events.harts ≡ self.old.events.harts }
+        ensures instances { self.new.events.instances ≡ self.old.events.instances }
+    {
+        let at = match self.table.find(args[0], hart) {
+            Ok(at) => at,
+            Err(code) => return note(code),
+        };
+        note(self.table.register(at, args[1], args[2]))
+    }
+
+    /// Makes an event unused.
+    #[tactic(auto, using(crate::proofs::Places::stays))]
+    pub(super) fn unregister(&mut self, hart: u8, args: [u64; 5]) -> CallNote
+        requires { hart < self.old.events.harts }
+        ensures code { result.reply.error ≡ (function hart 3 args self.old.stacks (reach hart self.old)).code }
+        ensures value { result.reply.value ≡ 0 }
+        ensures written { result.written ≡ (function hart 3 args self.old.stacks (reach hart self.old)).written }
+        ensures next { self.new ≡ placed hart (function hart 3 args self.old.stacks (reach hart self.old)).reach self.old }
+        ensures refused { is_success result.reply.error ≡ false → self.new ≡ self.old }
+        ensures harts { self.new.events.harts ≡ self.old.events.harts }
+        ensures instances { self.new.events.instances ≡ self.old.events.instances }
+    {
+        let at = match self.table.find(args[0], hart) {
+            Ok(at) => at,
+            Err(code) => return note(code),
+        };
+        note(self.table.unregister(at))
+    }
+
+    /// Enables an event.
+    #[tactic(auto, using(crate::proofs::Places::stays))]
+    pub(super) fn enable(&mut self, hart: u8, args: [u64; 5]) -> CallNote
+        requires { hart < self.old.events.harts }
+        ensures code { result.reply.error ≡ (function hart 4 args self.old.stacks (reach hart self.old)).code }
+        ensures value { result.reply.value ≡ 0 }
+        ensures written { result.written ≡ (function hart 4 args self.old.stacks (reach hart self.old)).written }
+        ensures next { self.new ≡ placed hart (function hart 4 args self.old.stacks (reach hart self.old)).reach self.old }
+        ensures refused { is_success result.reply.error ≡ false → self.new ≡ self.old }
+        ensures harts { self.new.events.harts ≡ self.old.events.harts }
+        ensures instances { self.new.events.instances ≡ self.old.events.instances }
+    {
+        let at = match self.table.find(args[0], hart) {
+            Ok(at) => at,
+            Err(code) => return note(code),
+        };
+        note(self.table.enable(at))
+    }
+
+    /// Disables an event.
+    #[tactic(auto, using(crate::proofs::Places::stays))]
+    pub(super) fn disable(&mut self, hart: u8, args: [u64; 5]) -> CallNote
+        requires { hart < self.old.events.harts }
+        ensures code { result.reply.error ≡ (function hart 5 args self.old.stacks (reach hart self.old)).code }
+        ensures value { result.reply.value ≡ 0 }
+        ensures written { result.written ≡ (function hart 5 args self.old.stacks (reach hart self.old)).written }
+        ensures next { self.new ≡ placed hart (function hart 5 args self.old.stacks (reach hart self.old)).reach self.old }
+        ensures refused { is_success result.reply.error ≡ false → self.new ≡ self.old }
+        ensures harts { self.new.events.harts ≡ self.old.events.harts }
+        ensures instances { self.new.events.instances ≡ self.old.events.instances }
+    {
+        let at = match self.table.find(args[0], hart) {
+            Ok(at) => at,
+            Err(code) => return note(code),
+        };
+        note(self.table.disable(at))
+    }
+
+    /// Completes the newest handler of the hart; where none runs nothing changes.
+    #[tactic(auto, using(crate::proofs::Places::stays))]
+    pub(super) fn complete(&mut self, hart: u8) -> CallNote
+        requires { hart < self.old.events.harts }
+        ensures code { result.reply.error ≡ (function hart 6 [] self.old.stacks (reach hart self.old)).code }
+        ensures value { result.reply.value ≡ 0 }
+        ensures written { result.written ≡ (function hart 6 [] self.old.stacks (reach hart self.old)).written }
+        ensures next { self.new ≡ placed hart (function hart 6 [] self.old.stacks (reach hart self.old)).reach self.old }
+        ensures refused { is_success result.reply.error ≡ false → self.new ≡ self.old }
+        ensures harts { self.new.events.harts ≡ self.old.events.harts }
+        ensures instances { self.new.events.instances ≡ self.old.events.instances }
+    {
+        let stack = &mut self.stacks[hart as usize];
+        if let Some(at) = stack.complete() {
+            self.table.set_completed(at);
+        }
+        note(SbiCode::Success)
+    }
+
+    /// Unmasks the hart.
+    #[tactic(auto, using(crate::proofs::Places::stays))]
+    pub(super) fn unmask(&mut self, hart: u8) -> CallNote
+        requires { hart < self.old.events.harts }
+        ensures code { result.reply.error ≡ (function hart 8 [] self.old.stacks (reach hart self.old)).code }
+        ensures value { result.reply.value ≡ 0 }
+        ensures written { result.written ≡ (function hart 8 [] self.old.stacks (reach hart self.old)).written }
+        ensures next { self.new ≡ placed hart (function hart 8 [] self.old.stacks (reach hart self.old)).reach self.old }
+        ensures refused { is_success result.reply.error ≡ false → self.new ≡ self.old }
+        ensures harts { self.new.events.harts ≡ self.old.events.harts }
+        ensures instances { self.new.events.instances ≡ self.old.events.instances }
+    {
+        note(self.targets.unmask(&self.table, hart))
+    }
+
+    /// Masks the hart.
+    #[tactic(auto, using(crate::proofs::Places::stays))]
+    pub(super) fn mask(&mut self, hart: u8) -> CallNote
+        requires { hart < self.old.events.harts }
+        ensures code { result.reply.error ≡ (function hart 9 [] self.old.stacks (reach hart self.old)).code }
+        ensures value { result.reply.value ≡ 0 }
+        ensures written { result.written ≡ (function hart 9 [] self.old.stacks (reach hart self.old)).written }
+        ensures next { self.new ≡ placed hart (function hart 9 [] self.old.stacks (reach hart self.old)).reach self.old }
+        ensures refused { is_success result.reply.error ≡ false → self.new ≡ self.old }
+        ensures harts { self.new.events.harts ≡ self.old.events.harts }
+        ensures instances { self.new.events.instances ≡ self.old.events.instances }
+    {
+        note(self.targets.mask(&self.table, hart))
+    }
+
+    /// Signals an event, a local one on the hart that is named.
+    #[tactic(auto, using(crate::proofs::Places::stays, crate::proofs::Injects::injected_none, crate::proofs::Injects::injected_some))]
+    pub(super) fn inject(&mut self, hart: u8, args: [u64; 5]) -> CallNote
+        requires { hart < self.old.events.harts }
+        ensures code { result.reply.error ≡ (function hart 7 args self.old.stacks (reach hart self.old)).code }
+        ensures value { result.reply.value ≡ 0 }
+        ensures written { result.written ≡ (function hart 7 args self.old.stacks (reach hart self.old)).written }
+        ensures next { self.new ≡ placed hart (function hart 7 args self.old.stacks (reach hart self.old)).reach self.old }
+        ensures refused { is_success result.reply.error ≡ false → self.new ≡ self.old }
+        ensures harts { self.new.events.harts ≡ self.old.events.harts }
+        ensures instances { self.new.events.instances ≡ self.old.events.instances }
+    {
+        let at = match self.table.find(args[0], hart) {
+            Ok(at) => at,
+            Err(code) => return note(code),
+        };
+        if !self.table.may_inject(at) {
+            return note(SbiCode::InvalidParam);
+        }
+        let to = match elsewhere(at, args[1], self.table.harts()) {
+            Some(to) => to,
+            None => return note(SbiCode::InvalidParam),
+        };
+        self.table.signal(to);
+        note(SbiCode::Success)
+    }
+
+    /// One attribute of an instance.
+    fn attribute(&self, at: Instance, attr: u8) -> u64
+        requires on_board { IsOnBoard at self.now.events }
+        requires attribute { attr ≤ 9 }
+        ensures { result ≡ read attr at self.now.stacks self.now.events }
+    {
+        if attr < 6 {
+            self.table.get_attr(at, attr)
+        } else {
+            interrupted(&self.stacks, attr, at)
+        }
+    }
+
+    /// The attributes of a range, and zeros up to ten.
+    #[tactic(auto, using(crate::proofs::Gathered::one_more_read, crate::proofs::Gathered::reads_taken))]
+    fn attributes(&self, at: Instance, range: AttrRange) -> [u64; 10]
+        requires on_board { IsOnBoard at self.now.events }
+        requires range { range.base + range.count ≤ 10 }
+        ensures { take range.count result ≡ reads range.base range.count at self.now.stacks self.now.events }
+    {
+        let mut out = [0; 10];
+        for i in 0..range.count {
+            out[i as usize] = self.attribute(at, range.base + i);
+        }
+        out
+    }
+
+    /// Puts the attributes of a range into memory.
+    #[tactic(auto, using(crate::proofs::Places::stays))]
+    fn read_range(&mut self, hart: u8, at: Instance, args: [u64; 5]) -> CallNote
+        requires hart { hart < self.old.events.harts }
+        requires on_board { IsOnBoard at self.old.events }
+        ensures code { result.reply.error ≡ (read_attrs (argument args 1) (argument args 2) (argument args 3) (argument args 4) at self.old.stacks (reach hart self.old)).code }
+        ensures value { result.reply.value ≡ 0 }
+        ensures written { result.written ≡ (read_attrs (argument args 1) (argument args 2) (argument args 3) (argument args 4) at self.old.stacks (reach hart self.old)).written }
+        ensures next { self.new ≡ placed hart (read_attrs (argument args 1) (argument args 2) (argument args 3) (argument args 4) at self.old.stacks (reach hart self.old)).reach self.old }
+        ensures refused { is_success result.reply.error ≡ false → self.new ≡ self.old }
+        ensures harts { self.new.events.harts ≡ self.old.events.harts }
+        ensures instances { self.new.events.instances ≡ self.old.events.instances }
+    {
+        let range = match attr_range(args[1], args[2]) {
+            Ok(range) => range,
+            Err(RangeFault::Zero) => return note(SbiCode::InvalidParam),
+            Err(RangeFault::Reserved) => return note(SbiCode::BadRange),
+        };
+        if args[4] != 0 || !Memory::are_words(args[3], args[2]) {
+            return note(SbiCode::InvalidAddress);
+        }
+        let words = self.attributes(at, range);
+        self.memory
+            .write_words(args[3], &words[..range.count as usize]);
+        note(SbiCode::Success)
+    }
+
+    /// Writes words to the attributes of a range, all or none.
+    #[tactic(auto, using(crate::proofs::Places::stays))]
+    fn write_range(&mut self, hart: u8, at: Instance, range: AttrRange, lo: u64) -> CallNote
+        requires hart { hart < self.old.events.harts }
+        requires on_board { IsOnBoard at self.old.events }
+        requires range { range.base + range.count ≤ 10 }
+        requires words { are_words lo range.count ≡ true }
+        ensures code { result.reply.error ≡ (write_words range.base (words_at self.old.memory lo range.count) at (reach hart self.old)).code }
+        ensures value { result.reply.value ≡ 0 }
+        ensures written { result.written ≡ (write_words range.base (words_at self.old.memory lo range.count) at (reach hart self.old)).written }
+        ensures next { self.new ≡ placed hart (write_words range.base (words_at self.old.memory lo range.count) at (reach hart self.old)).reach self.old }
+        ensures refused { is_success result.reply.error ≡ false → self.new ≡ self.old }
+        ensures harts { self.new.events.harts ≡ self.old.events.harts }
+        ensures instances { self.new.events.instances ≡ self.old.events.instances }
+    {
+        let words = self.memory.read_words(lo, range.count);
+        let values = &words[..range.count as usize];
+        let stack = &mut self.stacks[hart as usize];
+        let code = self.table.check_write(at, range, values, stack.has(at));
+        if !matches!(code, SbiCode::Success) {
+            return note(code);
+        }
+        self.table.set_attrs(at, range.base, values);
+        stack.write_interrupted(range.base, values, at);
+        CallNote {
+            reply: Reply {
+                error: SbiCode::Success,
+                value: 0,
+            },
+            written: words,
+        }
+    }
+
+    /// Puts the attributes of an event into memory.
+    #[tactic(auto, using(crate::proofs::Places::stays))]
+    pub(super) fn read_attrs(&mut self, hart: u8, args: [u64; 5]) -> CallNote
+        requires { hart < self.old.events.harts }
+        ensures code { result.reply.error ≡ (function hart 0 args self.old.stacks (reach hart self.old)).code }
+        ensures value { result.reply.value ≡ 0 }
+        ensures written { result.written ≡ (function hart 0 args self.old.stacks (reach hart self.old)).written }
+        ensures next { self.new ≡ placed hart (function hart 0 args self.old.stacks (reach hart self.old)).reach self.old }
+        ensures refused { is_success result.reply.error ≡ false → self.new ≡ self.old }
+        ensures harts { self.new.events.harts ≡ self.old.events.harts }
+        ensures instances { self.new.events.instances ≡ self.old.events.instances }
+    {
+        let at = match self.table.find(args[0], hart) {
+            Ok(at) => at,
+            Err(code) => return note(code),
+        };
+        self.read_range(hart, at, args)
+    }
+
+    /// Writes words in memory to the attributes of an event, all or none.
+    #[tactic(auto, using(crate::proofs::Places::stays))]
+    pub(super) fn write_attrs(&mut self, hart: u8, args: [u64; 5]) -> CallNote
+        requires { hart < self.old.events.harts }
+        ensures code { result.reply.error ≡ (function hart 1 args self.old.stacks (reach hart self.old)).code }
+        ensures value { result.reply.value ≡ 0 }
+        ensures written { result.written ≡ (function hart 1 args self.old.stacks (reach hart self.old)).written }
+        ensures next { self.new ≡ placed hart (function hart 1 args self.old.stacks (reach hart self.old)).reach self.old }
+        ensures refused { is_success result.reply.error ≡ false → self.new ≡ self.old }
+        ensures harts { self.new.events.harts ≡ self.old.events.harts }
+        ensures instances { self.new.events.instances ≡ self.old.events.instances }
+    {
+        let at = match self.table.find(args[0], hart) {
+            Ok(at) => at,
+            Err(code) => return note(code),
+        };
+        let range = match attr_range(args[1], args[2]) {
+            Ok(range) => range,
+            Err(RangeFault::Zero) => return note(SbiCode::InvalidParam),
+            Err(RangeFault::Reserved) => return note(SbiCode::BadRange),
+        };
+        if args[4] != 0 || !Memory::are_words(args[3], args[2]) {
+            return note(SbiCode::InvalidAddress);
+        }
+        self.write_range(hart, at, range, args[3])
+    }
+}

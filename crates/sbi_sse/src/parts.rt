@@ -1,0 +1,75 @@
+//! Answers, and the stacks of all harts.
+
+ghost use Rattle.std.specs.Prelude.{◌≡◌, ◌≤◌, map, IfOk};
+ghost use Rattle.sse_base.specs.Contexts.{fresh_stack};
+ghost use Rattle.sse_base.specs.Calls.{no_words, interrupted_on};
+ghost use Rattle.sbi_sse.specs.Elsewhere.{elsewhere};
+
+use hart_ctx::Contexts;
+use sse_base::{Instance, Reply, SbiCode};
+use std::alloc::{AllocError, Global};
+
+/// What a call answered.
+#[derive(Clone, Copy, Debug, PartialEq, Eq)]
+pub struct CallNote {
+    pub reply: Reply,
+    /// The words that an accepted write of attributes took, in its first places, and 0 elsewhere.
+    pub written: [u64; 10],
+}
+
+/// The answer of a call that writes no attributes.
+pub fn note(code: SbiCode) -> CallNote
+    ensures code { result.reply.error ≡ code }
+    ensures value { result.reply.value ≡ 0 }
+    ensures written { result.written ≡ no_words }
+{
+    CallNote {
+        reply: Reply {
+            error: code,
+            value: 0,
+        },
+        written: [0; 10],
+    }
+}
+
+/// A hart at each of these places, on which no handler runs.
+pub fn stacks(alloc: Global, starts: &[u64]) -> Result<Vec<Contexts>, AllocError>
+    ensures { IfOk result (λ v. v.items ≡ map fresh_stack starts.now) }
+{
+    starts.iter().map(|pc| Contexts::new(*pc)).collect(alloc)
+}
+
+/// An INTERRUPTED attribute of an event: of its handler's frame, on whichever hart that runs, and 0 where
+/// it doesn't run.
+pub fn interrupted(stacks: &[Contexts], attr: u8, at: Instance) -> u64
+    requires first { 6 ≤ attr }
+    requires last { attr ≤ 9 }
+    ensures { result ≡ interrupted_on attr at stacks.now }
+{
+    for stack in stacks {
+        if let Some(word) = stack.interrupted(attr, at) {
+            return word;
+        }
+    }
+    0
+}
+
+/// The instance of the same event on another hart: a global one is the same everywhere. None exactly where
+/// a local one is asked for on a hart that the board hasn't.
+pub fn elsewhere(at: Instance, hart: u64, harts: u8) -> Option<Instance>
+    ensures { result ≡ elsewhere at hart harts }
+{
+    match at {
+        Instance::Local { id, .. } => {
+            if hart < harts as u64 {
+                Some(Instance::Local {
+                    id,
+                    hart: hart as u8,
+                })
+            } else {
+                None
+            }
+        }
+        Instance::Global { .. } => Some(at),
+    }
+}
