@@ -1,2 +1,4 @@
+-- Lemmas on ops and runs, and a worked script.
 pub mod OpTables
 pub mod Runs
+mod FirstEvent

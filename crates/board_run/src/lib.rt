@@ -13,3 +13,6 @@ mod status;
 
 pub use playing::play;
 pub use status::Status;
+
+#[cfg(test)]
+mod tests;
