@@ -257,8 +257,8 @@ fn write_lines<K: Sink>(
     )
 }
 
-/// Writes the full report of a board after these steps. SinkFault comes only where the sink's count rose in
-/// this call; then a front of the report was appended.
+/// Writes the full report of a board after these steps. The one fault is the sink's own, of which its count then
+/// tells; up to there the report was appended.
 pub(crate) fn write_report<K: Sink>(
     board: &Board,
     steps: &[Step],

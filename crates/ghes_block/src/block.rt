@@ -13,8 +13,8 @@ use reri_fields::{Control, RecordCopy, Severity, Status};
 /// little-endian.
 pub type Block = [u8; 140];
 
-/// Whether a block can hold the copy: it is valid, a severity bit is set, and no bit outside the fields of control and
-/// status is set (this project).
+/// Whether a block can hold the copy: a valid one with a severity, whose control and status have all their set bits
+/// inside fields (this project).
 pub fn is_copy(copy: &RecordCopy) -> bool
     ensures { IsTrue result ↔ IsCopy copy.now }
 {

@@ -1,7 +1,8 @@
 //! The error status block: six registers of an error record as 140 bytes and back, and the slot that holds a block
 //! until it is acknowledged.
 //!
-//! The layout is ACPI's Generic Error Status Block with one Generic Error Data Entry of revision 0x0300.
+//! The layout is that of ACPI 6.5, 18.3.2.7: a Generic Error Status Block, in it one Generic Error Data Entry, which
+//! says revision 0x0300.
 #![tactic(auto)]
 
 mod block;

@@ -25,10 +25,9 @@ pub enum ReadAllError {
 // the most that one call of `read` is asked for
 const PIECE: usize = 4096;
 
-/// Reads `src` to its end, at most `max` bytes. `ReadFault` comes only where the count of faults
-/// rose in this call. `TooLong` comes where more than `max` bytes came, and then `max` + 1 were
-/// taken. `NoMemory` comes where no room was found for them. Each turn but the last takes at least
-/// one byte.
+/// Reads `src` to its end, at most `max` bytes. `ReadFault`: a read failed, which the count of faults
+/// tells. `TooLong`: there were more than `max` bytes, and `max` + 1 of them were taken. `NoMemory`: no
+/// room was found for them. A turn that takes no byte is the last one, so this ends.
 pub fn read_all<S: Source>(alloc: Global, src: &mut S, max: usize) -> Result<Vec<u8>, ReadAllError>
     requires { max ≤ 50331648 }
     ensures whole { IfOk result (λ v. Consumes (S.left src.old) (S.left src.new) v.items) }

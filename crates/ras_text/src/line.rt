@@ -34,8 +34,8 @@ impl<'a, K: Sink> Line<'a, K> {
         }
     }
 
-    /// Writes the line and its newline in one write, and starts an empty one, also after a fault.
-    /// `SinkFault` comes only where the sink's count of faults rose in this call.
+    /// Ends the line: gives it to the sink with a newline behind it, as one write. The line is empty
+    /// afterwards, whatever came of the write. The one error is the sink's, of which its count tells.
     pub fn end(&mut self) -> Result<(), SinkFault>
         requires { length (text_of self.old) ≤ 512 }
         ensures empty { text_of self.new ≡ [] }

@@ -42,9 +42,9 @@ fn value_of(base: u64, digits: &[u8]) -> Option<u64>
     Some(value)
 }
 
-/// The number that a word spells: one or more decimal digits, or `0x` and one or more hexadecimal
-/// digits of either case. None exactly where it is no such spelling, or its value is above
-/// 2^64 - 1.
+/// The number that a word spells, in decimal, or in hexadecimal behind `0x` with small or capital
+/// digits. At least one digit has to stand there. None for every other word, and for a number that
+/// a `u64` can't hold. The spelling is this project's own.
 #[tactic(auto, unfolding(crate::specs::Numbers::number))]
 pub fn number(word: &[u8]) -> Option<u64>
     ensures { result ≡ number word.now }

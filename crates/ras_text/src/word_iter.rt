@@ -20,7 +20,8 @@ impl<'a> Model for WordIter<'a> {
     ghost view = { λ s. words s.rest.now };
 }
 
-/// The words of a line: its longest runs of bytes other than space and tab, in order.
+/// Cuts a line into words, from left to right. Spaces and tabs part them and belong to none. The rule
+/// is this project's own.
 pub fn words(line: &[u8]) -> WordIter<'_>
     ensures { result ≡ words line.now }
 {

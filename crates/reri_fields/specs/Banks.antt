@@ -57,8 +57,7 @@ raised origins history error =
     let at = error.report.rec in
     option_map_or (λ origin. level_in (outcome origin (events_of at history) error)) (slice_get origins at) 0
 
--- since the last search that found no signalled record, or since the start, an error wrote a record of the bank at a level
--- other than 0
+-- some record of the bank was written by an error whose level isn't 0, and no search has come up empty since
 unfoldable pub asks : List Origin → List BankEvent → Bool
 asks origins [] = false
 asks origins (Logs error ∷ history) = asks origins history || nat_lt 0 (raised origins history error)

@@ -103,7 +103,7 @@ is_logged origin history report =
     else (control_fields origin.control).enable
 
 unfoldable mutual
-  -- the errors logged since the last invalidation that cleared the record, the oldest first
+  -- the errors that the record was told of and logged, as far back as the last invalidation that took effect, oldest first
   pub since : Origin → List Event → List Error
   since origin [] = []
   since origin (Reported error ∷ history) =
@@ -111,8 +111,8 @@ unfoldable mutual
   since origin (Claimed ∷ history) = since origin history
   since origin (Invalidated ∷ history) = if in_progress origin history then [] else since origin history
 
-  -- whether the record was claimed while it held an error, and since that claim no error wrote it and no invalidation
-  -- cleared it
+  -- whether a claim of the error that the record holds still counts: an error that is written ends it, and so does an
+  -- invalidation that takes effect
   pub in_progress : Origin → List Event → Bool
   in_progress origin [] = false
   in_progress origin (Reported error ∷ history) =

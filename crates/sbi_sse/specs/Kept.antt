@@ -26,8 +26,7 @@ abbrev pub may_run_on : ℕ → Instance → Bool
 may_run_on h (Local id k) = k == h
 may_run_on h (Global id) = true
 
--- the instances of a board: each stands once, at most 8 may run on one hart, a local event that one hart has each has, and
--- bit 15 of an id says whether the event is global
+-- the instances of a board: each stands once, at most 8 may run on one hart, and a local event that one hart has each has
 pub record IsBoard (harts : ℕ) (instances : List Instance) : Type 0 where
   pub once : (x : Instance) → times x instances ≤ 1
   pub few : (h : ℕ) → length (filter (may_run_on h) instances) ≤ 8

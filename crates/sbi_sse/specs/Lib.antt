@@ -1,4 +1,4 @@
--- Which declarations make a board, and what the firmware keeps at all times.
+-- The machine at its start, what the firmware keeps at all times, and what becomes of it while its memory is lent.
 pub mod Start
 pub mod Kept
 pub mod Elsewhere

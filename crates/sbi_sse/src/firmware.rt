@@ -2,24 +2,24 @@
 
 mod calls;
 
-ghost use Rattle.std.specs.Prelude.{◌≡◌, ◌<◌, ◌≤◌, ◌+◌, ℕ, length, true, false, slice_set, slice_get, take, IfOk, MatchOption, is_some, unwrap_or};
+ghost use Rattle.std.specs.Prelude.{◌≡◌, ◌<◌, ◌≤◌, length, true, false, slice_set, slice_get, IfOk, MatchOption, is_some, unwrap_or};
 ghost use Rattle.sse_base.specs.Codes.{is_success};
 ghost use Rattle.sse_base.specs.Events.{IsOnBoard, signal};
 ghost use Rattle.sse_base.specs.Contexts.{with_pc};
 ghost use Rattle.sse_base.specs.Words.{load, store, is_word};
-ghost use Rattle.sse_base.specs.Machine.{Machine, reach, placed, stack_of};
+ghost use Rattle.sse_base.specs.Machine.{reach, placed, stack_of};
 ghost use Rattle.sse_base.specs.Choice.{next_for, top_urgency};
-ghost use Rattle.sse_base.specs.Calls.{call, function, read, reads, read_attrs, write_attrs, delivered};
+ghost use Rattle.sse_base.specs.Calls.{call, delivered};
 ghost use Rattle.hart_ctx.specs.Registers.{regs_of, with_regs};
 ghost use Rattle.hart_ctx.specs.Running.{running_in};
 ghost use Rattle.std.specs.Borrow.{sem};
 ghost use Rattle.sbi_sse.specs.Lending.{LendsMemory};
 ghost use Rattle.sbi_sse.specs.Start.{are_distinct, start_machine};
 
-use crate::parts::{CallNote, interrupted, note, stacks};
+use crate::parts::{CallNote, note, stacks};
 use hart_ctx::{Contexts, Memory, Regs, Saved};
 use ras_io::NoMemory;
-use sse_base::{AttrRange, EventDecl, EventId, Instance, RangeFault, Reply, SbiCode, attr_range};
+use sse_base::{EventDecl, EventId, Instance, SbiCode};
 use sse_table::Table;
 use sse_target::Targets;
 use std::alloc::Global;
@@ -50,8 +50,8 @@ impl Model for Firmware {
 }
 
 impl Firmware {
-    /// The firmware of a board of so many harts at its start, each at its own place: nobody has used an
-    /// event, and each hart is masked. `NoMemory` comes where no room was found.
+    /// The firmware of a board at its start, with each hart at its own place and masked, and no event used.
+    /// `NoMemory` comes where no room was found.
     pub fn new(
         alloc: Global,
         harts: u8,

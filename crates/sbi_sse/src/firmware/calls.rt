@@ -1,9 +1,9 @@
 //! The ten calls.
 
-ghost use Rattle.std.specs.Prelude.{◌≡◌, ◌<◌, ◌≤◌, ◌+◌, ℕ, length, true, false, take, [], ◌∷◌};
+ghost use Rattle.std.specs.Prelude.{◌≡◌, ◌<◌, ◌≤◌, ◌+◌, true, false, take, []};
 ghost use Rattle.sse_base.specs.Codes.{is_success};
 ghost use Rattle.sse_base.specs.Events.{IsOnBoard};
-ghost use Rattle.sse_base.specs.Machine.{Machine, reach, placed};
+ghost use Rattle.sse_base.specs.Machine.{reach, placed};
 ghost use Rattle.sse_base.specs.Words.{are_words, words_at};
 ghost use Rattle.sse_base.specs.Calls.{function, argument, read, reads, read_attrs, write_words};
 
