@@ -19,7 +19,7 @@ use Rattle.board_plan.specs.declared.ops.Op.{Op}
 use Rattle.board_plan.specs.declared.ops.Op.TheVariants as ops
 use Rattle.board_plan.specs.declared.ops.Placed.{Placed}
 use Rattle.board_plan.specs.declared.plan.Plan.{Plan}
-use Rattle.board_plan.specs.FirstForm.{placed, is_address, at_line, inc_line, function_of, argument_at, arguments, sbi_line, op_line, middle_line, first_plan, start_of_words, start_line, following, from_pieces, first_form}
+use Rattle.board_plan.specs.FirstForm.{placed, is_address, at_line, inc_line, argument_at, arguments, sbi_line, op_line, middle_line, first_plan, start_of_words, start_line, following, from_pieces, first_form}
 use Rattle.board_plan.specs.Step.{BoardState, step, start_state}
 use Rattle.board_plan.specs.Run.{run, notes, steps_made, rounds}
 use Rattle.board_plan.specs.Text.{field, head_line, context_text, counts_text, hart_line, event_line, word_line, schedule_line, entries_of_line, full}
@@ -47,7 +47,7 @@ plan =
     0x1000 100
 
 pub the_script_reads_as_its_plan : first_form script ≡ Some plan
-unfolding placed is_address at_line inc_line function_of argument_at arguments sbi_line op_line middle_line start_of_words start_line following from_pieces first_form value_in number
+unfolding placed is_address at_line inc_line argument_at arguments sbi_line op_line middle_line start_of_words start_line following from_pieces first_form value_in number
 the_script_reads_as_its_plan = refl
 
 abbrev called : ℕ → List ℕ → StepNote

@@ -151,7 +151,7 @@ fn refuses_texts_of_another_form(rt: HostRuntime) -> Result<(), Fail> {
         b"board 1 1\nevent 0xffff0000 inject\nop inc 0X0\nstart 0 0 1\n",
         b"board 1 1\nevent 0xffff0000 inject\nat 0x1001\nstart 0 0 1\n",
         b"board 1 1\nevent 0xffff0000 inject\nat 0xffff0002\nstart 0 0 1\n",
-        b"board 1 1\nevent 0xffff0000 inject\nop sbi 0x535345 3 0xffff0000\nstart 0 0 1\n",
+        b"board 1 1\nevent 0xffff0000 inject\nop sbi 0x535345 8 1 2 3 4 5 6\nstart 0 0 1\n",
         b"board 1 1\nevent 0xffff0000 inject\nop inc 0\nat 0x1000\nop inc 0\nstart 0 0 1\n",
         b"board 1 1\nevent 0xffff0000 inject\nstart 0 0 10001\n",
         b"board 1 1\nevent 0xffff0000 inject\nstart 0 0 1\nat 0x1000\n",
