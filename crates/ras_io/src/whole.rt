@@ -27,8 +27,8 @@ const PIECE: usize = 4096;
 
 /// Reads `src` to its end, at most `max` bytes. `ReadFault` comes only where the count of faults
 /// rose in this call. `TooLong` comes where more than `max` bytes came, and then `max` + 1 were
-/// taken. `NoMemory` comes where no room was found for them. Each turn but the last takes at least
-/// one byte.
+/// taken. `NoMemory` comes where no room was found for them, and never where the source failed in
+/// this call. Each turn but the last takes at least one byte.
 pub fn read_all<S: Source>(alloc: Global, src: &mut S, max: usize) -> Result<Vec<u8>, ReadAllError>
     requires { max ≤ 50331648 }
     ensures whole { IfOk result (λ v. Consumes (S.left src.old) (S.left src.new) v.items) }
@@ -38,6 +38,7 @@ pub fn read_all<S: Source>(alloc: Global, src: &mut S, max: usize) -> Result<Vec
     ensures fault { IsErrOf result ReadAllError.ReadFault → Rose (S.faults src.old) (S.faults src.new) }
     ensures long { IsErrOf result ReadAllError.TooLong → TakesOneTooMany (S.left src.old) (S.left src.new) max }
     ensures long_kept { IsErrOf result ReadAllError.TooLong → S.faults src.new ≡ S.faults src.old }
+    ensures memory_kept { IsErrOf result ReadAllError.NoMemory → S.faults src.new ≡ S.faults src.old }
     ensures later { S.faults src.old ≤ S.faults src.new }
 {
     let mut bytes = Vec::new(alloc);
