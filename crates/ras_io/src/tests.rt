@@ -154,6 +154,28 @@ fn says_that_a_flush_failed(rt: HostRuntime) -> Result<(), Fail> {
     Ok(())
 }
 
+// a writer that takes all that it is given, and whose flush fails
+#[derive(Drop)]
+struct Stuck;
+
+impl Write for Stuck {
+    fn write(&mut self, buf: &[u8]) -> io::Result<usize> {
+        Ok(buf.len())
+    }
+
+    fn flush(&mut self) -> io::Result<()> {
+        Err(io::Error::from(io::ErrorKind::StorageFull))
+    }
+}
+
+#[test]
+fn says_that_the_writer_did_not_flush(rt: HostRuntime) -> Result<(), Fail> {
+    let mut sink = StdSink::new(rt.alloc(), Stuck)?;
+    assert_eq!(rt; sink.write(b"one\n"), Ok(()));
+    assert_eq!(rt; sink.flush(), Err(SinkFault));
+    Ok(())
+}
+
 #[test]
 fn passes_on_what_is_too_long_to_gather(rt: HostRuntime) -> Result<(), Fail> {
     let long = vec![in rt.alloc(); b'x'; 65537]?;

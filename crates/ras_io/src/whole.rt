@@ -27,7 +27,8 @@ const PIECE: usize = 4096;
 
 /// Reads `src` to its end, at most `max` bytes. `ReadFault`: a read failed, which the count of faults
 /// tells. `TooLong`: there were more than `max` bytes, and `max` + 1 of them were taken. `NoMemory`: no
-/// room was found for them. A turn that takes no byte is the last one, so this ends.
+/// room was found for them, and no read had failed. A turn that takes no byte is the last one, so this
+/// ends.
 pub fn read_all<S: Source>(alloc: Global, src: &mut S, max: usize) -> Result<Vec<u8>, ReadAllError>
     requires { max ≤ 50331648 }
     ensures whole { IfOk result (λ v. Consumes (S.left src.old) (S.left src.new) v.items) }
@@ -37,6 +38,7 @@ pub fn read_all<S: Source>(alloc: Global, src: &mut S, max: usize) -> Result<Vec
     ensures fault { IsErrOf result ReadAllError.ReadFault → Rose (S.faults src.old) (S.faults src.new) }
     ensures long { IsErrOf result ReadAllError.TooLong → TakesOneTooMany (S.left src.old) (S.left src.new) max }
     ensures long_kept { IsErrOf result ReadAllError.TooLong → S.faults src.new ≡ S.faults src.old }
+    ensures memory_kept { IsErrOf result ReadAllError.NoMemory → S.faults src.new ≡ S.faults src.old }
     ensures later { S.faults src.old ≤ S.faults src.new }
 {
     let mut bytes = Vec::new(alloc);
