@@ -232,6 +232,47 @@ fn handlers_nest_and_return(rt: HostRuntime) -> Result<(), Fail> {
 }
 
 #[test]
+fn a_user_is_interrupted(rt: HostRuntime) -> Result<(), Fail> {
+    let mut firmware = one(rt.alloc(), 0xffff_0000)?;
+    all_answer(
+        &rt,
+        &mut firmware,
+        &[
+            (8, [0; 5], SbiCode::Success),
+            (2, [LOCAL, 0x2000, 0, 0, 0], SbiCode::Success),
+            (4, [LOCAL, 0, 0, 0, 0], SbiCode::Success),
+            (7, [LOCAL, 0, 0, 0, 0], SbiCode::Success),
+        ],
+    );
+    let user = Regs {
+        pc: 0x1104,
+        privilege: Privilege::User,
+        sie: false,
+        sepc: 0x1100,
+        spp: false,
+        spie: true,
+        a6: 0,
+        a7: 0,
+    };
+    firmware.set_regs(0, &user);
+    assert_eq!(rt; firmware.deliver(0), Some(on(0, 0xffff_0000)));
+    let mut begun = handler(0x2000, 0x1104, false, 0);
+    begun.spp = false;
+    assert_eq!(rt; *firmware.regs(0), begun);
+    assert_eq!(rt; firmware.depth(0), 1);
+    let kept = Saved {
+        sepc: 0x1100,
+        flags: 2,
+        a6: 0,
+        a7: 0,
+    };
+    assert_eq!(rt; firmware.running(0, 0), (on(0, 0xffff_0000), kept));
+    assert_eq!(rt; code(&mut firmware, 0, 6, [0; 5]), SbiCode::Success);
+    assert_eq!(rt; *firmware.regs(0), user);
+    Ok(())
+}
+
+#[test]
 fn two_harts_share_an_event(rt: HostRuntime) -> Result<(), Fail> {
     let decls = [injectable(0xffff_8000)];
     let mut firmware = Firmware::new(rt.alloc(), 2, &decls, &[0x1000, 0x1800])?;
