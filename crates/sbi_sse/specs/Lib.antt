@@ -2,4 +2,5 @@
 pub mod Start
 pub mod Kept
 pub mod Elsewhere
+pub mod Answered
 pub mod Lending

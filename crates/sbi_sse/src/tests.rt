@@ -320,6 +320,165 @@ fn two_harts_share_an_event(rt: HostRuntime) -> Result<(), Fail> {
     Ok(())
 }
 
+/// The two events of equal priority that a hart has, enabled, and the hart unmasked.
+const EQUAL_ENABLED: [Row; 5] = [
+    (8, [0; 5], SbiCode::Success),
+    (2, [0, 0x3000, 0, 0, 0], SbiCode::Success),
+    (4, [0; 5], SbiCode::Success),
+    (2, [LOCAL, 0x2000, 0, 0, 0], SbiCode::Success),
+    (4, [LOCAL, 0, 0, 0, 0], SbiCode::Success),
+];
+
+/// The firmware of one hart with two enabled events of priority 0.
+fn equal_events(rt: &impl Abort, alloc: Global) -> Result<Firmware, Fail>
+    ensures { IfOk result (λ f. f.events.harts ≡ 1) }
+{
+    let decls = [injectable(0xffff_0000), injectable(0)];
+    let mut firmware = Firmware::new(alloc, 1, &decls, &[0x1000])?;
+    all_answer(rt, &mut firmware, &EQUAL_ENABLED);
+    Ok(firmware)
+}
+
+#[test]
+fn the_lesser_id_interrupts(rt: HostRuntime) -> Result<(), Fail> {
+    let mut firmware = equal_events(&rt, rt.alloc())?;
+    let signal = code(&mut firmware, 0, 7, [LOCAL, 0, 0, 0, 0]);
+    assert_eq!(rt; signal, SbiCode::Success);
+    assert_eq!(rt; firmware.deliver(0), Some(on(0, 0xffff_0000)));
+    let signal = code(&mut firmware, 0, 7, [0; 5]);
+    assert_eq!(rt; signal, SbiCode::Success);
+    assert_eq!(rt; firmware.deliver(0), Some(on(0, 0)));
+    assert_eq!(rt; firmware.depth(0), 2);
+    Ok(())
+}
+
+#[test]
+fn the_greater_id_waits(rt: HostRuntime) -> Result<(), Fail> {
+    let mut firmware = equal_events(&rt, rt.alloc())?;
+    let signal = code(&mut firmware, 0, 7, [0; 5]);
+    assert_eq!(rt; signal, SbiCode::Success);
+    assert_eq!(rt; firmware.deliver(0), Some(on(0, 0)));
+    let signal = code(&mut firmware, 0, 7, [LOCAL, 0, 0, 0, 0]);
+    assert_eq!(rt; signal, SbiCode::Success);
+    assert_eq!(rt; firmware.deliver(0), None);
+    assert_eq!(rt; code(&mut firmware, 0, 6, [0; 5]), SbiCode::Success);
+    assert_eq!(rt; firmware.depth(0), 0);
+    assert_eq!(rt; firmware.deliver(0), Some(on(0, 0xffff_0000)));
+    Ok(())
+}
+
+/// The event of both harts prefers hart 1, is enabled and pending, and hart 0 alone is unmasked.
+const PREFERS_THE_OTHER: [Row; 5] = [
+    (1, [GLOBAL, 3, 1, BASE, 0], SbiCode::Success),
+    (2, [GLOBAL, 0x2000, 0, 0, 0], SbiCode::Success),
+    (4, [GLOBAL, 0, 0, 0, 0], SbiCode::Success),
+    (8, [0; 5], SbiCode::Success),
+    (7, [GLOBAL, 0, 0, 0, 0], SbiCode::Success),
+];
+
+#[test]
+fn a_shared_event_goes_where_it_is_preferred(rt: HostRuntime) -> Result<(), Fail> {
+    let decls = [injectable(0xffff_8000)];
+    let mut firmware = Firmware::new(rt.alloc(), 2, &decls, &[0x1000, 0x1800])?;
+    let shared = Instance::Global {
+        id: EventId(0xffff_8000),
+    };
+    let _ = firmware.store(BASE, 1);
+    all_answer(&rt, &mut firmware, &PREFERS_THE_OTHER);
+    assert_eq!(rt; firmware.deliver(1), None);
+    assert_eq!(rt; firmware.deliver(0), Some(shared));
+    let again = code(&mut firmware, 0, 7, [GLOBAL, 0, 0, 0, 0]);
+    assert_eq!(rt; again, SbiCode::Success);
+    assert_eq!(rt; code(&mut firmware, 0, 9, [0; 5]), SbiCode::Success);
+    assert_eq!(rt; code(&mut firmware, 1, 8, [0; 5]), SbiCode::Success);
+    assert_eq!(rt; code(&mut firmware, 0, 8, [0; 5]), SbiCode::Success);
+    assert_eq!(rt; firmware.deliver(0), None);
+    assert_eq!(rt; firmware.deliver(1), None);
+    assert_eq!(rt; code(&mut firmware, 0, 6, [0; 5]), SbiCode::Success);
+    assert_eq!(rt; firmware.deliver(0), None);
+    assert_eq!(rt; firmware.deliver(1), Some(shared));
+    Ok(())
+}
+
+/// The event runs once for each enabling, lets itself be injected, and is enabled.
+const ONESHOT: [Row; 5] = [
+    (1, [LOCAL, 2, 1, BASE, 0], SbiCode::Success),
+    (2, [LOCAL, 0x2000, 0, 0, 0], SbiCode::Success),
+    (4, [LOCAL, 0, 0, 0, 0], SbiCode::Success),
+    (8, [0; 5], SbiCode::Success),
+    (7, [LOCAL, 0, 0, 0, 0], SbiCode::Success),
+];
+
+/// What the event's STATUS reads.
+fn status(firmware: &mut Firmware) -> Option<u64>
+    requires { 0 < firmware.old.events.harts }
+    ensures { firmware.new.events.harts ≡ firmware.old.events.harts }
+{
+    let _ = code(firmware, 0, 0, [LOCAL, 0, 1, BASE + 8, 0]);
+    firmware.memory().load(BASE + 8)
+}
+
+#[test]
+fn a_oneshot_event_runs_once(rt: HostRuntime) -> Result<(), Fail> {
+    let mut firmware = one(rt.alloc(), 0xffff_0000)?;
+    let _ = firmware.store(BASE, 1);
+    all_answer(&rt, &mut firmware, &ONESHOT);
+    assert_eq!(rt; firmware.deliver(0), Some(on(0, 0xffff_0000)));
+    let signal = code(&mut firmware, 0, 7, [LOCAL, 0, 0, 0, 0]);
+    assert_eq!(rt; signal, SbiCode::Success);
+    assert_eq!(rt; code(&mut firmware, 0, 6, [0; 5]), SbiCode::Success);
+    assert_eq!(rt; status(&mut firmware), Some(0xd));
+    assert_eq!(rt; firmware.deliver(0), None);
+    let enable = code(&mut firmware, 0, 4, [LOCAL, 0, 0, 0, 0]);
+    assert_eq!(rt; enable, SbiCode::Success);
+    assert_eq!(rt; firmware.deliver(0), Some(on(0, 0xffff_0000)));
+    assert_eq!(rt; code(&mut firmware, 0, 6, [0; 5]), SbiCode::Success);
+    assert_eq!(rt; status(&mut firmware), Some(0x9));
+    let signal = code(&mut firmware, 0, 7, [LOCAL, 0, 0, 0, 0]);
+    assert_eq!(rt; signal, SbiCode::Success);
+    assert_eq!(rt; status(&mut firmware), Some(0xd));
+    let enable = code(&mut firmware, 0, 4, [LOCAL, 0, 0, 0, 0]);
+    assert_eq!(rt; enable, SbiCode::Success);
+    assert_eq!(rt; firmware.deliver(0), Some(on(0, 0xffff_0000)));
+    Ok(())
+}
+
+#[test]
+fn values_are_refused_and_taken(rt: HostRuntime) -> Result<(), Fail> {
+    let mut firmware = one(rt.alloc(), 0xffff_8000)?;
+    let _ = firmware.store(BASE, 1);
+    let prefer = (1, [GLOBAL, 3, 1, BASE, 0], SbiCode::InvalidParam);
+    all_answer(&rt, &mut firmware, &[prefer]);
+    let _ = firmware.store(BASE, 0);
+    let prefer = (1, [GLOBAL, 3, 1, BASE, 0], SbiCode::Success);
+    all_answer(&rt, &mut firmware, &[prefer]);
+    let mut firmware = one(rt.alloc(), 0xffff_0000)?;
+    let _ = firmware.store(BASE, 5);
+    let _ = firmware.store(BASE + 8, 2);
+    all_answer(
+        &rt,
+        &mut firmware,
+        &[
+            (1, [LOCAL, 1, 2, BASE, 0], SbiCode::InvalidParam),
+            (0, [LOCAL, 1, 2, BASE + 16, 0], SbiCode::Success),
+            (1, [LOCAL, 2, 1, BASE + 8, 0], SbiCode::InvalidParam),
+        ],
+    );
+    assert_eq!(rt; firmware.memory().load(BASE + 16), Some(0));
+    assert_eq!(rt; firmware.memory().load(BASE + 24), Some(0));
+    let _ = firmware.store(BASE + 8, 1);
+    all_answer(
+        &rt,
+        &mut firmware,
+        &[
+            (1, [LOCAL, 2, 1, BASE + 8, 0], SbiCode::Success),
+            (0, [LOCAL, 2, 1, BASE + 24, 0], SbiCode::Success),
+        ],
+    );
+    assert_eq!(rt; firmware.memory().load(BASE + 24), Some(1));
+    Ok(())
+}
+
 /// Local events by rising id, the last of them the least urgent at equal priority.
 const LOCALS: [u32; 8] = [
     0x0,

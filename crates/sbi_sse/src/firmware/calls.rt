@@ -1,11 +1,11 @@
 //! The ten calls.
 
-ghost use Rattle.std.specs.Prelude.{◌≡◌, ◌<◌, ◌≤◌, ◌+◌, true, false, take, []};
-ghost use Rattle.sse_base.specs.Codes.{is_success};
+ghost use Rattle.std.specs.Prelude.{◌≡◌, ◌<◌, ◌≤◌, ◌+◌, true, take, []};
 ghost use Rattle.sse_base.specs.Events.{IsOnBoard};
-ghost use Rattle.sse_base.specs.Machine.{reach, placed};
+ghost use Rattle.sse_base.specs.Machine.{reach};
 ghost use Rattle.sse_base.specs.Words.{are_words, words_at};
 ghost use Rattle.sse_base.specs.Calls.{function, argument, read, reads, read_attrs, write_words};
+ghost use Rattle.sbi_sse.specs.Answered.{Answers};
 
 use crate::firmware::Firmware;
 use crate::parts::{CallNote, elsewhere, interrupted, note};
@@ -17,13 +17,7 @@ impl Firmware {
     #[tactic(auto, using(crate::proofs::Places::stays))]
     pub(super) fn register(&mut self, hart: u8, args: [u64; 5]) -> CallNote
         requires { hart < self.old.events.harts }
-        ensures code { result.reply.error ≡ (function hart 2 args self.old.stacks (reach hart self.old)).code }
-        ensures value { result.reply.value ≡ 0 }
-        ensures written { result.written ≡ (function hart 2 args self.old.stacks (reach hart self.old)).written }
-        ensures next { self.new ≡ placed hart (function hart 2 args self.old.stacks (reach hart self.old)).reach self.old }
-        ensures refused { is_success result.reply.error ≡ false → self.new ≡ self.old }
-        ensures harts { self.new.events.harts ≡ self.old.events.harts }
-        ensures instances { self.new.events.instances ≡ self.old.events.instances }
+        ensures { Answers hart self.old self.new result (function hart 2 args self.old.stacks (reach hart self.old)) }
     {
         let at = match self.table.find(args[0], hart) {
             Ok(at) => at,
@@ -36,13 +30,7 @@ impl Firmware {
     #[tactic(auto, using(crate::proofs::Places::stays))]
     pub(super) fn unregister(&mut self, hart: u8, args: [u64; 5]) -> CallNote
         requires { hart < self.old.events.harts }
-        ensures code { result.reply.error ≡ (function hart 3 args self.old.stacks (reach hart self.old)).code }
-        ensures value { result.reply.value ≡ 0 }
-        ensures written { result.written ≡ (function hart 3 args self.old.stacks (reach hart self.old)).written }
-        ensures next { self.new ≡ placed hart (function hart 3 args self.old.stacks (reach hart self.old)).reach self.old }
-        ensures refused { is_success result.reply.error ≡ false → self.new ≡ self.old }
-        ensures harts { self.new.events.harts ≡ self.old.events.harts }
-        ensures instances { self.new.events.instances ≡ self.old.events.instances }
+        ensures { Answers hart self.old self.new result (function hart 3 args self.old.stacks (reach hart self.old)) }
     {
         let at = match self.table.find(args[0], hart) {
             Ok(at) => at,
@@ -55,13 +43,7 @@ impl Firmware {
     #[tactic(auto, using(crate::proofs::Places::stays))]
     pub(super) fn enable(&mut self, hart: u8, args: [u64; 5]) -> CallNote
         requires { hart < self.old.events.harts }
-        ensures code { result.reply.error ≡ (function hart 4 args self.old.stacks (reach hart self.old)).code }
-        ensures value { result.reply.value ≡ 0 }
-        ensures written { result.written ≡ (function hart 4 args self.old.stacks (reach hart self.old)).written }
-        ensures next { self.new ≡ placed hart (function hart 4 args self.old.stacks (reach hart self.old)).reach self.old }
-        ensures refused { is_success result.reply.error ≡ false → self.new ≡ self.old }
-        ensures harts { self.new.events.harts ≡ self.old.events.harts }
-        ensures instances { self.new.events.instances ≡ self.old.events.instances }
+        ensures { Answers hart self.old self.new result (function hart 4 args self.old.stacks (reach hart self.old)) }
     {
         let at = match self.table.find(args[0], hart) {
             Ok(at) => at,
@@ -74,13 +56,7 @@ impl Firmware {
     #[tactic(auto, using(crate::proofs::Places::stays))]
     pub(super) fn disable(&mut self, hart: u8, args: [u64; 5]) -> CallNote
         requires { hart < self.old.events.harts }
-        ensures code { result.reply.error ≡ (function hart 5 args self.old.stacks (reach hart self.old)).code }
-        ensures value { result.reply.value ≡ 0 }
-        ensures written { result.written ≡ (function hart 5 args self.old.stacks (reach hart self.old)).written }
-        ensures next { self.new ≡ placed hart (function hart 5 args self.old.stacks (reach hart self.old)).reach self.old }
-        ensures refused { is_success result.reply.error ≡ false → self.new ≡ self.old }
-        ensures harts { self.new.events.harts ≡ self.old.events.harts }
-        ensures instances { self.new.events.instances ≡ self.old.events.instances }
+        ensures { Answers hart self.old self.new result (function hart 5 args self.old.stacks (reach hart self.old)) }
     {
         let at = match self.table.find(args[0], hart) {
             Ok(at) => at,
@@ -93,13 +69,7 @@ impl Firmware {
     #[tactic(auto, using(crate::proofs::Places::stays))]
     pub(super) fn complete(&mut self, hart: u8) -> CallNote
         requires { hart < self.old.events.harts }
-        ensures code { result.reply.error ≡ (function hart 6 [] self.old.stacks (reach hart self.old)).code }
-        ensures value { result.reply.value ≡ 0 }
-        ensures written { result.written ≡ (function hart 6 [] self.old.stacks (reach hart self.old)).written }
-        ensures next { self.new ≡ placed hart (function hart 6 [] self.old.stacks (reach hart self.old)).reach self.old }
-        ensures refused { is_success result.reply.error ≡ false → self.new ≡ self.old }
-        ensures harts { self.new.events.harts ≡ self.old.events.harts }
-        ensures instances { self.new.events.instances ≡ self.old.events.instances }
+        ensures { Answers hart self.old self.new result (function hart 6 [] self.old.stacks (reach hart self.old)) }
     {
         let stack = &mut self.stacks[hart as usize];
         if let Some(at) = stack.complete() {
@@ -112,13 +82,7 @@ impl Firmware {
     #[tactic(auto, using(crate::proofs::Places::stays))]
     pub(super) fn unmask(&mut self, hart: u8) -> CallNote
         requires { hart < self.old.events.harts }
-        ensures code { result.reply.error ≡ (function hart 8 [] self.old.stacks (reach hart self.old)).code }
-        ensures value { result.reply.value ≡ 0 }
-        ensures written { result.written ≡ (function hart 8 [] self.old.stacks (reach hart self.old)).written }
-        ensures next { self.new ≡ placed hart (function hart 8 [] self.old.stacks (reach hart self.old)).reach self.old }
-        ensures refused { is_success result.reply.error ≡ false → self.new ≡ self.old }
-        ensures harts { self.new.events.harts ≡ self.old.events.harts }
-        ensures instances { self.new.events.instances ≡ self.old.events.instances }
+        ensures { Answers hart self.old self.new result (function hart 8 [] self.old.stacks (reach hart self.old)) }
     {
         note(self.targets.unmask(&self.table, hart))
     }
@@ -127,13 +91,7 @@ impl Firmware {
     #[tactic(auto, using(crate::proofs::Places::stays))]
     pub(super) fn mask(&mut self, hart: u8) -> CallNote
         requires { hart < self.old.events.harts }
-        ensures code { result.reply.error ≡ (function hart 9 [] self.old.stacks (reach hart self.old)).code }
-        ensures value { result.reply.value ≡ 0 }
-        ensures written { result.written ≡ (function hart 9 [] self.old.stacks (reach hart self.old)).written }
-        ensures next { self.new ≡ placed hart (function hart 9 [] self.old.stacks (reach hart self.old)).reach self.old }
-        ensures refused { is_success result.reply.error ≡ false → self.new ≡ self.old }
-        ensures harts { self.new.events.harts ≡ self.old.events.harts }
-        ensures instances { self.new.events.instances ≡ self.old.events.instances }
+        ensures { Answers hart self.old self.new result (function hart 9 [] self.old.stacks (reach hart self.old)) }
     {
         note(self.targets.mask(&self.table, hart))
     }
@@ -142,13 +100,7 @@ impl Firmware {
     #[tactic(auto, using(crate::proofs::Places::stays, crate::proofs::Injects::injected_none, crate::proofs::Injects::injected_some))]
     pub(super) fn inject(&mut self, hart: u8, args: [u64; 5]) -> CallNote
         requires { hart < self.old.events.harts }
-        ensures code { result.reply.error ≡ (function hart 7 args self.old.stacks (reach hart self.old)).code }
-        ensures value { result.reply.value ≡ 0 }
-        ensures written { result.written ≡ (function hart 7 args self.old.stacks (reach hart self.old)).written }
-        ensures next { self.new ≡ placed hart (function hart 7 args self.old.stacks (reach hart self.old)).reach self.old }
-        ensures refused { is_success result.reply.error ≡ false → self.new ≡ self.old }
-        ensures harts { self.new.events.harts ≡ self.old.events.harts }
-        ensures instances { self.new.events.instances ≡ self.old.events.instances }
+        ensures { Answers hart self.old self.new result (function hart 7 args self.old.stacks (reach hart self.old)) }
     {
         let at = match self.table.find(args[0], hart) {
             Ok(at) => at,
@@ -197,13 +149,7 @@ impl Firmware {
     fn read_range(&mut self, hart: u8, at: Instance, args: [u64; 5]) -> CallNote
         requires hart { hart < self.old.events.harts }
         requires on_board { IsOnBoard at self.old.events }
-        ensures code { result.reply.error ≡ (read_attrs (argument args 1) (argument args 2) (argument args 3) (argument args 4) at self.old.stacks (reach hart self.old)).code }
-        ensures value { result.reply.value ≡ 0 }
-        ensures written { result.written ≡ (read_attrs (argument args 1) (argument args 2) (argument args 3) (argument args 4) at self.old.stacks (reach hart self.old)).written }
-        ensures next { self.new ≡ placed hart (read_attrs (argument args 1) (argument args 2) (argument args 3) (argument args 4) at self.old.stacks (reach hart self.old)).reach self.old }
-        ensures refused { is_success result.reply.error ≡ false → self.new ≡ self.old }
-        ensures harts { self.new.events.harts ≡ self.old.events.harts }
-        ensures instances { self.new.events.instances ≡ self.old.events.instances }
+        ensures { Answers hart self.old self.new result (read_attrs (argument args 1) (argument args 2) (argument args 3) (argument args 4) at self.old.stacks (reach hart self.old)) }
     {
         let range = match attr_range(args[1], args[2]) {
             Ok(range) => range,
@@ -226,13 +172,7 @@ impl Firmware {
         requires on_board { IsOnBoard at self.old.events }
         requires range { range.base + range.count ≤ 10 }
         requires words { are_words lo range.count ≡ true }
-        ensures code { result.reply.error ≡ (write_words range.base (words_at self.old.memory lo range.count) at (reach hart self.old)).code }
-        ensures value { result.reply.value ≡ 0 }
-        ensures written { result.written ≡ (write_words range.base (words_at self.old.memory lo range.count) at (reach hart self.old)).written }
-        ensures next { self.new ≡ placed hart (write_words range.base (words_at self.old.memory lo range.count) at (reach hart self.old)).reach self.old }
-        ensures refused { is_success result.reply.error ≡ false → self.new ≡ self.old }
-        ensures harts { self.new.events.harts ≡ self.old.events.harts }
-        ensures instances { self.new.events.instances ≡ self.old.events.instances }
+        ensures { Answers hart self.old self.new result (write_words range.base (words_at self.old.memory lo range.count) at (reach hart self.old)) }
     {
         let words = self.memory.read_words(lo, range.count);
         let values = &words[..range.count as usize];
@@ -256,13 +196,7 @@ impl Firmware {
     #[tactic(auto, using(crate::proofs::Places::stays))]
     pub(super) fn read_attrs(&mut self, hart: u8, args: [u64; 5]) -> CallNote
         requires { hart < self.old.events.harts }
-        ensures code { result.reply.error ≡ (function hart 0 args self.old.stacks (reach hart self.old)).code }
-        ensures value { result.reply.value ≡ 0 }
-        ensures written { result.written ≡ (function hart 0 args self.old.stacks (reach hart self.old)).written }
-        ensures next { self.new ≡ placed hart (function hart 0 args self.old.stacks (reach hart self.old)).reach self.old }
-        ensures refused { is_success result.reply.error ≡ false → self.new ≡ self.old }
-        ensures harts { self.new.events.harts ≡ self.old.events.harts }
-        ensures instances { self.new.events.instances ≡ self.old.events.instances }
+        ensures { Answers hart self.old self.new result (function hart 0 args self.old.stacks (reach hart self.old)) }
     {
         let at = match self.table.find(args[0], hart) {
             Ok(at) => at,
@@ -275,13 +209,7 @@ impl Firmware {
     #[tactic(auto, using(crate::proofs::Places::stays))]
     pub(super) fn write_attrs(&mut self, hart: u8, args: [u64; 5]) -> CallNote
         requires { hart < self.old.events.harts }
-        ensures code { result.reply.error ≡ (function hart 1 args self.old.stacks (reach hart self.old)).code }
-        ensures value { result.reply.value ≡ 0 }
-        ensures written { result.written ≡ (function hart 1 args self.old.stacks (reach hart self.old)).written }
-        ensures next { self.new ≡ placed hart (function hart 1 args self.old.stacks (reach hart self.old)).reach self.old }
-        ensures refused { is_success result.reply.error ≡ false → self.new ≡ self.old }
-        ensures harts { self.new.events.harts ≡ self.old.events.harts }
-        ensures instances { self.new.events.instances ≡ self.old.events.instances }
+        ensures { Answers hart self.old self.new result (function hart 1 args self.old.stacks (reach hart self.old)) }
     {
         let at = match self.table.find(args[0], hart) {
             Ok(at) => at,
