@@ -13,6 +13,3 @@ mod status;
 
 pub use playing::play;
 pub use status::Status;
-
-#[cfg(test)]
-mod tests;

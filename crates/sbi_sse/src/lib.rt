@@ -3,8 +3,6 @@
 
 mod firmware;
 mod parts;
-#[cfg(test)]
-mod tests;
 
 pub use firmware::Firmware;
 pub use hart_ctx::{Contexts, Memory, Privilege, Regs, Saved};

@@ -1,7 +1,9 @@
+//! Scripts that are played, with sources and sinks that fail.
+
 ghost use Rattle.std.specs.Prelude.{Some};
 
-use super::*;
 use board_plan::LineFault;
+use board_run::{Status, play};
 use ras_io::{MemSink, MemSource, Sink, SinkFault};
 use std::alloc::{AllocError, Global};
 use std::test::Fail;
