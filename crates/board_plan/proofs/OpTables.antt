@@ -1,9 +1,7 @@
 -- An op added behind others.
-use Rattle.std.proofs.Common.{◌≡◌, ℕ, ◌==◌, Bool, true, false, cond, List, [], ◌∷◌, ◌++◌, Option, Some, None, refl, arith}
-use Rattle.std.proofs.lemmas.Bool.{cases_Bool}
+use Rattle.std.proofs.Common.{◌≡◌, ℕ, ◌==◌, Bool, true, false, cond, List, [], ◌∷◌, ◌++◌, Some, None, refl, arith}
 use Rattle.std.proofs.lemmas.Bool.Decides.{nat_tests}
 use Rattle.board_plan.specs.declared.ops.Placed.{Placed}
-use Rattle.board_plan.specs.declared.ops.Op.{Op}
 use Rattle.board_plan.specs.Ops.{op_at}
 
 passed : (b c : Bool) (x : Placed) (ps : List Placed) (p : Placed) (q : ℕ) → (x.pc == q) ≡ b → (x.pc == p.pc) ≡ c →

@@ -1,6 +1,6 @@
 -- One step of a hart. This project's own, over the calls and deliveries of the event book.
 -- A hart makes the first that it can of: the delivery that is chosen for it, and the op at its pc.
-use Rattle.std.specs.Prelude.{ℕ, ◌+◌, ◌*◌, ◌%◌, ◌^◌, ◌==◌, nat_lt, Bool, true, false, if◌then◌else◌, ℤ, pos, List, [], ◌∷◌, map, replicate, length, slice_get, slice_set, slice_index_or, Option, Some, None}
+use Rattle.std.specs.Prelude.{ℕ, ◌+◌, ◌%◌, ◌^◌, nat_lt, Bool, true, false, if◌then◌else◌, pos, List, map, replicate, slice_set, slice_index_or, Option, Some, None}
 use Rattle.std.specs.List.{range_with_len}
 use Rattle.sse_base.specs.declared.contexts.Privilege.{Privilege}
 use Rattle.sse_base.specs.declared.contexts.Privilege.TheVariants.{User, Supervisor}

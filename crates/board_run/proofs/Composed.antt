@@ -1,22 +1,18 @@
 -- The parts of the top call together.
-use Rattle.std.proofs.Common.{◌≡◌, ◌⊎◌, ℕ, ◌<◌, ◌≤◌, nat_lt, Bool, true, false, cond, List, length, Option, Some, None, Result, Ok, Err, refl, sym, ap, ◌∙◌, subst, inl, inr, arith, IfSome, is_err}
-use Rattle.std.proofs.lemmas.Bool.Decides.{nat_tests}
-use Rattle.std.specs.Io.KnownBytes.{Appends, Consumes, IsAtEnd}
+use Rattle.std.proofs.Common.{◌≡◌, ℕ, true, List, Option, Some, Result, Ok, Err, ap, ◌∙◌, IfSome, is_err}
+use Rattle.std.specs.Io.KnownBytes.{Consumes, IsAtEnd}
 use Rattle.std.proofs.KnownBytes.{Consumes-whole}
 use Rattle.ras_io.specs.Causes.{Puts, AppendsFront}
 use Rattle.ras_io.specs.declared.faults.SinkFault.{SinkFault}
 use Rattle.board_plan.specs.declared.notes.Step.{Step}
-use Rattle.board_plan.specs.declared.plan.Plan.{Plan}
 use Rattle.board_plan.specs.FirstForm.{first_form}
 use Rattle.board_plan.specs.Step.{BoardState, start_state}
-use Rattle.board_plan.specs.Run.{run, steps_made}
-use Rattle.board_plan.specs.Text.{bytes_of, full_lines, full}
+use Rattle.board_plan.specs.Run.{run}
+use Rattle.board_plan.specs.Text.{bytes_of, full_lines}
 use Rattle.board_run.specs.declared.script.Script.{Script}
-use Rattle.board_run.specs.declared.status.Status.{Status}
-use Rattle.board_run.specs.declared.status.Status.TheVariants as answers
 use Rattle.board_run.specs.Reading.{plan_of}
 use Rattle.board_run.specs.Rounds.{IsRun}
-use Rattle.board_run.specs.Play.{limit, IsReport, WritesReport, WritesFront, answer_read, answer_to, Answers}
+use Rattle.board_run.specs.Play.{IsReport, WritesFront}
 
 -- what was written of a run is its plan's report
 report-is : (text : List ℕ) (script : Script) (s : BoardState) (steps : List Step) → first_form text ≡ Some (plan_of script) → IsRun (plan_of script) s steps → IsReport text (bytes_of (full_lines 1 s steps))
@@ -30,12 +26,6 @@ report-is text script s steps e r =
           ∙ ap (λ (ts : List Step). bytes_of (full_lines 1 (run (plan_of script) (start_state (plan_of script)) r.tries) ts)) r.made;
     }
 
-pub writes-report : (left after : Option (List ℕ)) (text : List ℕ) (script : Script) (s : BoardState) (steps : List Step) (old new : Option (List ℕ)) →
-    Consumes left after text → IsAtEnd after → first_form text ≡ Some (plan_of script) → IsRun (plan_of script) s steps → Appends old new (bytes_of (full_lines 1 s steps)) →
-    IfSome left (λ t. WritesReport t old new)
-writes-report left after text script s steps old new taken ended e r w =
-    Consumes-whole left after text (λ t. WritesReport t old new) taken ended (record { bytes = bytes_of (full_lines 1 s steps); is_report = report-is text script s steps e r; appended = w })
-
 front-at : {T E : Type 0} (r : Result T E) (old new : Option (List ℕ)) (bytes : List ℕ) → is_err r ≡ true → Puts old new r bytes → AppendsFront old new bytes
 front-at (Ok v) old new bytes h p = cc
 front-at (Err e) old new bytes h p = p.front
@@ -45,15 +35,3 @@ pub writes-front : (left after : Option (List ℕ)) (text : List ℕ) (script : 
     IfSome left (λ t. WritesFront t old new)
 writes-front left after text script s steps result old new taken ended e r h w =
     Consumes-whole left after text (λ t. WritesFront t old new) taken ended (record { bytes = bytes_of (full_lines 1 s steps); is_report = report-is text script s steps e r; appended = front-at result old new (bytes_of (full_lines 1 s steps)) h w })
-
--- what a text within the limit is answered
-answer-is : (text : List ℕ) → length text ≤ limit → answer_to text ≡ answer_read (first_form text)
-answer-is text h = let short : nat_lt limit (length text) ≡ false = grind (arith, nat_tests) in rw short
-
-pub answers-read : (left after : Option (List ℕ)) (text : List ℕ) (script : Script) → Consumes left after text → IsAtEnd after → length text ≤ limit → first_form text ≡ Some (plan_of script) → IfSome left (λ t. Answers t answers.Ok)
-answers-read left after text script taken ended h e =
-    Consumes-whole left after text (λ t. Answers t answers.Ok) taken ended (inr (inl (sym (answer-is text h ∙ ap answer_read e))))
-
-pub answers-fault : (left after : Option (List ℕ)) (text : List ℕ) (script : Script) → Consumes left after text → IsAtEnd after → length text ≤ limit → first_form text ≡ Some (plan_of script) → IfSome left (λ t. Answers t answers.WriteFault)
-answers-fault left after text script taken ended h e =
-    Consumes-whole left after text (λ t. Answers t answers.WriteFault) taken ended (inr (inr (refl, answer-is text h ∙ ap answer_read e)))

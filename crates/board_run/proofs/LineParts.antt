@@ -1,5 +1,5 @@
 -- The parts of a line, one after another.
-use Rattle.std.proofs.Common.{◌≡◌, ℕ, Bool, true, false, List, [], ◌∷◌, ◌++◌, codes, decimal, refl, sym, ap, ◌∙◌, append_assoc}
+use Rattle.std.proofs.Common.{◌≡◌, ℕ, Bool, true, false, List, [], ◌∷◌, ◌++◌, codes, decimal, refl, append_assoc}
 use Rattle.std.specs.Fmt.{signed_decimal}
 use Rattle.ras_text.specs.Numbers.{hexadecimal}
 use Rattle.hart_ctx.specs.declared.regs.Regs.{Regs}

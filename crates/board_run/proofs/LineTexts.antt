@@ -1,8 +1,8 @@
 -- A hart's line by its registers.
-use Rattle.std.proofs.Common.{◌≡◌, refl, ap}
+use Rattle.std.proofs.Common.{◌≡◌, refl}
 use Rattle.sse_base.specs.declared.contexts.Privilege.{Privilege}
 use Rattle.sse_base.specs.declared.contexts.Privilege.TheVariants.{User, Supervisor}
-use Rattle.sse_base.specs.Contexts.{Context, Triple, Stack, top_triple, privilege_at}
+use Rattle.sse_base.specs.Contexts.{Stack, top_triple, privilege_at}
 use Rattle.hart_ctx.specs.declared.regs.Regs.{Regs}
 use Rattle.hart_ctx.specs.Registers.{is_supervisor, live_of, triple_in, regs_of}
 use Rattle.board_plan.specs.Text.{context_text}

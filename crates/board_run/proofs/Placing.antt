@@ -1,5 +1,5 @@
 -- A hart's reach, taken and placed.
-use Rattle.std.proofs.Common.{◌≡◌, ℕ, ◌<◌, refl, ap, length}
+use Rattle.std.proofs.Common.{◌≡◌, ◌<◌, ap, length}
 use Rattle.std.proofs.lemmas.List.{get_or-set_same, set-set, set-get_or}
 use Rattle.sse_base.specs.Contexts.{Stack, fresh_stack}
 use Rattle.sse_base.specs.Machine.{Machine, Reach, reach, placed}

@@ -1,8 +1,8 @@
 -- What is written of some bytes, and what is left.
-use Rattle.std.proofs.Common.{◌≡◌, ℕ, ◌≤◌, List, [], ◌∷◌, ◌++◌, Ok, Err, Result, Option, refl, sym, ap, ◌∙◌, append_assoc, append-nil, subst, arith}
+use Rattle.std.proofs.Common.{◌≡◌, ℕ, List, [], ◌++◌, Ok, Err, Result, Option, refl, sym, ◌∙◌, append_assoc, append-nil, subst}
 use Rattle.std.specs.Io.KnownBytes.{Appends}
 use Rattle.std.proofs.KnownBytes.{Appends-trans, Appends-nil}
-use Rattle.ras_io.specs.Causes.{Puts, AppendsFront, HasCause, Rose}
+use Rattle.ras_io.specs.Causes.{Puts, AppendsFront}
 use Rattle.ras_io.proofs.Puts.{AppendsFront-then, AppendsFront-of_more}
 
 -- from a on some of the bytes went to b, and the rest is left
@@ -35,13 +35,6 @@ progress-end a b all u p = record { all = subst (Appends a b) (sym (p.whole ∙ 
 pub progress-last : {T E : Type 0} (a b d : Option (List ℕ)) (r : Result T E) (all part : List ℕ) → Progress a b all part → Puts b d r part → Puts a d r all
 progress-last a b d (Ok v) all part p q = record { all = subst (Appends a d) (sym p.whole) (Appends-trans a b d p.done part p.appended q.all); front = tt }
 progress-last a b d (Err e) all part p q = record { all = tt; front = subst (AppendsFront a d) (sym p.whole) (AppendsFront-then a b d p.done part p.appended q.front) }
-
--- faults over several writes
-pub cause-whole : {T E : Type 0} (a b : ℕ) (v : T) → b ≡ a → HasCause {E = E} a b (Ok v)
-cause-whole a b v e = record { later = omega (arith, e); failed = tt; kept = e }
-
-pub cause-after : {T E : Type 0} (a b d : ℕ) (r : Result T E) → b ≡ a → HasCause b d r → HasCause a d r
-cause-after {T} {E} a b d r e h = subst (λ (n : ℕ). HasCause n d r) e h
 
 -- the rest said in other words
 pub progress-same : (a b : Option (List ℕ)) (all rest other : List ℕ) → rest ≡ other → Progress a b all rest → Progress a b all other

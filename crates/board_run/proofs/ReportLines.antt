@@ -1,7 +1,6 @@
 -- The lines of a report, one after another.
 use Rattle.std.proofs.Math.Seq.{drop-nil}
-use Rattle.std.proofs.Common.{◌≡◌, ℕ, zero, suc, ◌+◌, ◌-◌, ◌≤◌, get_or, ◌*◌, ◌<◌, ◌==◌, Bool, true, false, cond, List, [], ◌∷◌, ◌++◌, map, length, take, drop, Option, Some, None, refl, sym, ap, ◌∙◌, append_assoc, append-nil, length-append, arith, slice_get, slice_index_or}
-use Rattle.std.proofs.lemmas.Bool.Decides.{nat_tests}
+use Rattle.std.proofs.Common.{◌≡◌, ℕ, zero, suc, ◌+◌, ◌-◌, ◌≤◌, get_or, ◌*◌, ◌<◌, ◌==◌, Bool, true, false, cond, List, [], ◌∷◌, ◌++◌, map, length, drop, Some, refl, sym, ap, ◌∙◌, append_assoc, append-nil, length-append, arith, slice_get, slice_index_or}
 use Rattle.std.specs.List.{range_with_len}
 use Rattle.sse_base.specs.declared.ids.Instance.{Instance}
 use Rattle.sse_base.specs.Contexts.{Frame, Triple, below}

@@ -1,5 +1,5 @@
 -- The board of one hart over its firmware, against the board book. No public clause cites this.
-use Rattle.std.specs.Prelude.{◌≡◌, ℕ, List, [], ◌∷◌, Option, Some, None}
+use Rattle.std.specs.Prelude.{[], ◌∷◌, Option, Some, None}
 use Rattle.sse_base.specs.Machine.{Machine, Reach}
 use Rattle.board_plan.specs.declared.notes.Counts.{Counts}
 use Rattle.board_plan.specs.declared.notes.StepNote.{StepNote}

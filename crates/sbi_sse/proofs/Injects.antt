@@ -1,15 +1,13 @@
 -- An injection in code, which names the instance on the other hart, and in the book, which names it by its id.
-use Rattle.std.proofs.Common.{◌≡◌, ℕ, ◌<◌, Bool, true, false, List, length, refl, ap, sym, ◌∙◌, arith, subst}
+use Rattle.std.proofs.Common.{◌≡◌, ℕ, Bool, true, false, refl, ap, sym, ◌∙◌}
 use Rattle.std.specs.Prelude.{if◌then◌else◌, ◌&&◌, not, nat_lt, Some, None, Result, Ok, Err}
-use Rattle.std.proofs.lemmas.Bool.Decides.{nat_tests}
 use Rattle.sse_base.specs.declared.ids.Instance.{Instance}
 use Rattle.sse_base.specs.declared.ids.Instance.TheVariants.{Local, Global}
 use Rattle.sse_base.specs.declared.codes.SbiCode.{SbiCode}
 use Rattle.sse_base.specs.declared.codes.SbiCode.TheVariants.{InvalidParam, NotSupported}
-use Rattle.sse_base.specs.Ids.{place, is_global, instance_of, is_local}
-use Rattle.sse_base.specs.Events.{Events, event, signal, IsOnBoard, is_on_board}
+use Rattle.sse_base.specs.Ids.{is_global, instance_of, is_local}
+use Rattle.sse_base.specs.Events.{Events, event, signal, is_on_board}
 use Rattle.sse_base.specs.Calls.{refused, accepted, find_instance, is_reserved, inject}
-use Rattle.sbi_sse.specs.Kept.{IsBoard}
 use Rattle.sbi_sse.specs.Elsewhere.{elsewhere}
 
 abbrev ok : Instance → Result Instance SbiCode
@@ -70,16 +68,3 @@ injected_some id h k n t at to f i m e =
     let p : (is_local at && not (nat_lt k t.harts)) ≡ false = hart_there at to k t.harts (ap (λ (j : ℕ). elsewhere at k j) (sym m) ∙ e)
     in let q : to ≡ instance_of id k = injected_to id h k n t at to f e
     in rw (i, p) (ap (λ (x : Instance). accepted (signal x t)) (sym q))
-
--- the other hart has the event too
-whole_there : (harts : ℕ) (is : List Instance) (at to : Instance) (k n : ℕ) → IsBoard harts is → n ≡ harts → place at is < length is →
-    elsewhere at k n ≡ Some to → place to is < length is
-whole_there harts is (Local id h) to k n b m l e =
-    let p = if_some (nat_lt k n) (Local id k) to e
-    in let q : k < n = grind (arith, nat_tests, p.0)
-    in subst (λ (x : Instance). place x is < length is) p.1 (b.whole id h k l (omega arith))
-whole_there harts is (Global id) to k n b m l e = subst (λ (x : Instance). place x is < length is) (some_is (Global id) to e) l
-
-pub there_on_board : (t : Events) (at to : Instance) (k n : ℕ) → IsBoard t.harts t.instances → n ≡ t.harts → IsOnBoard at t →
-    elsewhere at k n ≡ Some to → IsOnBoard to t
-there_on_board t at to k n b m l e = whole_there t.harts t.instances at to k n b m l e

@@ -1,6 +1,6 @@
 -- What each change of the firmware keeps.
 use Rattle.std.proofs.Common.{◌≡◌, ℕ, zero, suc, ◌+◌, ◌<◌, ◌≤◌, Bool, true, false, List, [], ◌∷◌, length, get_or, set, refl, ap, sym, ◌∙◌, arith, inl, inr, subst}
-use Rattle.std.specs.Prelude.{filter, if◌then◌else◌, Some, ◌%◌, ◌==◌, not}
+use Rattle.std.specs.Prelude.{filter, if◌then◌else◌, Some}
 use Rattle.std.proofs.lemmas.Bool.{cases_Bool, cases_lt}
 use Rattle.std.proofs.lemmas.List.{length-set, get_or-set_same, get_or-set_other, get_or_past}
 use Rattle.std.proofs.lemmas.Bool.Decides.{eqb_tells}
@@ -9,10 +9,9 @@ use Rattle.sse_base.specs.declared.arrows.State.TheVariants.{Unused, Registered,
 use Rattle.sse_base.specs.declared.ids.Instance.{Instance}
 use Rattle.sse_base.specs.declared.events.Event.{Event}
 use Rattle.sse_base.specs.Ids.{same_instance, place}
-use Rattle.sse_base.specs.Events.{Events, event, change, mark, fresh_event, is_running, is_enabled, is_unused, is_registered, IsOnBoard, set_running, set_completed}
+use Rattle.sse_base.specs.Events.{Events, event, change, mark, fresh_event, is_running, is_enabled, IsOnBoard, set_running, set_completed}
 use Rattle.sse_base.specs.Contexts.{Context, Triple, Frame, Stack, Under, bit, newest, deliver, complete, below, with_below, on_top, changed_below, changed_own}
-use Rattle.sse_base.specs.declared.codes.SbiCode.TheVariants.{Success, Denied, InvalidState, InvalidParam}
-use Rattle.sse_base.specs.Calls.{Called, register, unregister, enable, disable, check_write, some_attribute, some_word, is_never_written, is_shut, is_refused_value, with_attributes, with_interrupted, with_interrupted_words, with_interrupted_triple}
+use Rattle.sse_base.specs.Calls.{with_attributes, with_interrupted, with_interrupted_words, with_interrupted_triple}
 use Rattle.hart_ctx.specs.declared.regs.Regs.{Regs}
 use Rattle.hart_ctx.specs.Registers.{with_regs, triple_in}
 use Rattle.sbi_sse.specs.Kept.{times, ats, running, may_run_on, IsKept}
@@ -64,10 +63,6 @@ change_keeps at e t ms ss k p =
 pub mark_keeps : (at : Instance) (b : Bool) (t : Events) (ms : List Bool) (ss : List Stack) → IsKept t ms ss → IsKept (mark at b t) ms ss
 mark_keeps at b t ms ss k =
     record { board = k.board; each = k.each; masked = k.masked; harts = k.harts; framed = k.framed; own = k.own }
-
-pub masks_keep : (t : Events) (ms ns : List Bool) (ss : List Stack) → IsKept t ms ss → length ns ≡ length ms → IsKept t ns ss
-masks_keep t ms ns ss k e =
-    record { board = k.board; each = k.each; masked = e ∙ k.masked; harts = k.harts; framed = k.framed; own = k.own }
 
 -- The frames of one hart.
 
@@ -245,49 +240,6 @@ room_left t ms ss h d at k l on may en =
 
 -- The calls on events alone.
 
-by_cases : (P : Called → Type 0) (b : Bool) (x y : Called) → (b ≡ true → P x) → (b ≡ false → P y) → P (if b then x else y)
-by_cases P true x y p q = p refl
-by_cases P false x y p q = q refl
-
-unused_rests : (s : State) → not (is_unused s) ≡ false → false ≡ is_running s
-unused_rests Unused e = refl
-unused_rests Registered e = refl
-unused_rests Enabled e = refl
-unused_rests Running e = cc
-
-registered_rests : (s : State) → not (is_registered s) ≡ false → false ≡ is_running s
-registered_rests Unused e = refl
-registered_rests Registered e = refl
-registered_rests Enabled e = refl
-registered_rests Running e = cc
-
-still_enabled_rests : (s : State) → not (is_enabled s) ≡ false → false ≡ is_running s
-still_enabled_rests Unused e = refl
-still_enabled_rests Registered e = refl
-still_enabled_rests Enabled e = refl
-still_enabled_rests Running e = cc
-
-pub register_keeps : (pc arg : ℕ) (at : Instance) (t : Events) (ms : List Bool) (ss : List Stack) → IsKept t ms ss → IsKept (register pc arg at t).next ms ss
-register_keeps pc arg at t ms ss k =
-    by_cases (λ c. IsKept c.next ms ss) (pc % 2 == 1) _ _ (λ p. k)
-    (λ p. by_cases (λ c. IsKept c.next ms ss) (not (is_unused (event at t).state)) _ _ (λ q. k)
-    (λ q. change_keeps at (record (event at t) { state = Registered; entry = pc; arg = arg }) t ms ss k (unused_rests (event at t).state q)))
-
-pub unregister_keeps : (at : Instance) (t : Events) (ms : List Bool) (ss : List Stack) → IsKept t ms ss → IsKept (unregister at t).next ms ss
-unregister_keeps at t ms ss k =
-    by_cases (λ c. IsKept c.next ms ss) (not (is_registered (event at t).state)) _ _ (λ q. k)
-    (λ q. change_keeps at (record (event at t) { state = Unused; entry = 0; arg = 0 }) t ms ss k (registered_rests (event at t).state q))
-
-pub enable_keeps : (at : Instance) (t : Events) (ms : List Bool) (ss : List Stack) → IsKept t ms ss → IsKept (enable at t).next ms ss
-enable_keeps at t ms ss k =
-    by_cases (λ c. IsKept c.next ms ss) (not (is_registered (event at t).state)) _ _ (λ q. k)
-    (λ q. change_keeps at (record (event at t) { state = Enabled }) t ms ss k (registered_rests (event at t).state q))
-
-pub disable_keeps : (at : Instance) (t : Events) (ms : List Bool) (ss : List Stack) → IsKept t ms ss → IsKept (disable at t).next ms ss
-disable_keeps at t ms ss k =
-    by_cases (λ c. IsKept c.next ms ss) (not (is_enabled (event at t).state)) _ _ (λ q. k)
-    (λ q. change_keeps at (record (event at t) { state = Registered }) t ms ss k (still_enabled_rests (event at t).state q))
-
 -- What leaves a hart's handlers, whatever it does to what they keep.
 
 below_ats : (t base : Triple) (fs : List Frame) → ats (with_below t fs base).frames ≡ ats fs
@@ -331,19 +283,6 @@ newest_of live (f ∷ fs) base at e = let p : f.at ≡ at = cc in ap (λ (x : In
 
 pub newest_first : (s : Stack) (at : Instance) → newest s.frames ≡ Some at → ats s.frames ≡ at ∷ ats (complete s).frames
 newest_first s at e = newest_of s.live s.frames s.base at e
-
--- a write that is accepted has no refused word
-accepted_third : (a b c : Bool) → (if a then Denied else (if b then InvalidState else (if c then InvalidParam else Success))) ≡ Success → c ≡ false
-accepted_third true b c e = cc
-accepted_third false true c e = cc
-accepted_third false false true e = cc
-accepted_third false false false e = refl
-
-pub accepted_words : (base : ℕ) (words : List ℕ) (at : Instance) (here : Bool) (t : Events) → check_write base words at here t ≡ Success →
-    some_word (is_refused_value t.harts) base words ≡ false
-accepted_words base words at here t e =
-    accepted_third (some_attribute (is_never_written at) base (length words)) (some_attribute (is_shut (event at t).state here) base (length words))
-    (some_word (is_refused_value t.harts) base words) e
 
 -- The same with a hart's stack as the code has it.
 

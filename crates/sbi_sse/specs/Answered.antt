@@ -1,6 +1,5 @@
 -- What a call of one hart answered and left, against the book. This describes the code; no public clause cites it.
-use Rattle.std.specs.Prelude.{◌≡◌, ℕ, List, false}
-use Rattle.sse_base.specs.declared.ids.Instance.{Instance}
+use Rattle.std.specs.Prelude.{◌≡◌, ℕ, false}
 use Rattle.sse_base.specs.Codes.{is_success}
 use Rattle.sse_base.specs.Machine.{Machine, placed}
 use Rattle.sse_base.specs.Calls.{Answer}

@@ -1,11 +1,7 @@
-use Rattle.std.proofs.Common.{◌≡◌, ℕ, ◌+◌, ◌*◌, ◌-◌, ◌<◌, ◌≤◌, List, [], ◌∷◌, ◌++◌, map, drop, length, get_or, refl, sym, ap, ◌∙◌, arith}
-use Rattle.std.specs.List.{range_with_len}
+use Rattle.std.proofs.Common.{ℕ, List, [], ◌∷◌, ◌++◌, refl, ap, ◌∙◌, arith}
 use Rattle.ras_io.proofs.Puts.{Puts-same}
 use Rattle.sse_base.specs.Events.{slots}
-use Rattle.ras_text.specs.Lines.{text_of, sink_of}
-use Rattle.hart_ctx.specs.Running.{running_in}
-use Rattle.board_plan.specs.Text.{schedule_line, entries_of_line}
-use Rattle.board_run.proofs.Progress.{Progress, progress-start, progress-more, progress-fault, progress-end, progress-same}
+use Rattle.board_run.proofs.Progress.{progress-more, progress-fault, progress-end, progress-same}
 use Rattle.board_run.proofs.ReportLines.{events-next, events-end}
 use Rattle.board_run.proofs.report.write_events.Goals as goal
 

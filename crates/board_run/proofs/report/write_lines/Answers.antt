@@ -1,4 +1,4 @@
-use Rattle.std.proofs.Common.{refl, sym, ap, ◌∙◌, arith}
+use Rattle.std.proofs.Common.{refl, ◌∙◌}
 use Rattle.ras_io.proofs.Puts.{Puts-same}
 use Rattle.board_run.proofs.ReportLines.{report-order}
 use Rattle.board_run.proofs.report.write_lines.Goals as goal

@@ -1,11 +1,6 @@
-use Rattle.std.proofs.Common.{◌≡◌, ℕ, ◌+◌, ◌*◌, ◌-◌, ◌<◌, ◌≤◌, List, [], ◌∷◌, ◌++◌, map, drop, length, get_or, refl, sym, ap, ◌∙◌, arith}
-use Rattle.std.specs.List.{range_with_len}
-use Rattle.ras_io.proofs.Puts.{Puts-same}
-use Rattle.ras_text.specs.Lines.{text_of, sink_of}
-use Rattle.hart_ctx.specs.Running.{running_in}
-use Rattle.board_plan.specs.Text.{schedule_line, entries_of_line}
-use Rattle.board_run.proofs.Progress.{Progress, progress-start, progress-more, progress-fault, progress-end, progress-same}
-use Rattle.board_run.proofs.ReportLines.{word-next, words-end}
+use Rattle.std.proofs.Common.{get_or, refl, ◌∙◌, arith}
+use Rattle.board_run.proofs.Progress.{progress-more, progress-fault, progress-same}
+use Rattle.board_run.proofs.ReportLines.{word-next}
 use Rattle.board_run.proofs.report.write_words.Goals as goal
 
 pub returns-in-Err-clause-bytes : goal.returns-in-Err-clause-bytes

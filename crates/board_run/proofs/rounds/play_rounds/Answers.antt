@@ -1,4 +1,4 @@
-use Rattle.std.proofs.Common.{◌≡◌, ◌∙◌, refl, sym, arith, length}
+use Rattle.std.proofs.Common.{◌∙◌, refl, sym, arith, length}
 use Rattle.board_run.proofs.Loops.{run-started, run-more, run-idle, stays-few}
 use Rattle.board_run.proofs.rounds.play_rounds.Goals as goal
 

@@ -1,4 +1,4 @@
-use Rattle.std.proofs.Common.{◌≡◌, ◌∷◌, arith, length-append}
+use Rattle.std.proofs.Common.{arith, length-append}
 use Rattle.board_run.proofs.reading.Half.place.Goals as goal
 
 pub invariant_of-self-2 : goal.invariant_of-self-2
