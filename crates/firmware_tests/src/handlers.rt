@@ -1,10 +1,10 @@
 //! Handlers that interrupt one another on a hart.
 
-use crate::acts::{Act, BASE, LOCAL, OWN, all_happen, injectable};
+use crate::acts::{Act, BASE, GLOBAL, LOCAL, OWN, SHARED, all_happen, injectable};
 use sbi_sse::{EventId, Firmware, Instance, Privilege, Regs, Saved, SbiCode};
 use std::test::Fail;
 
-/// Two events of hart 0 of low and high urgency.
+/// The events of low and of high priority errors on hart 0.
 const LOW: Instance = Instance::Local {
     id: EventId(0x10_0000),
     hart: 0,
@@ -203,6 +203,44 @@ fn equal_priorities_go_by_id(rt: HostRuntime) -> Result<(), Fail> {
     let mut firmware = Firmware::new(rt.alloc(), 1, &decls, &[0x1000])?;
     all_happen(&rt, &mut firmware, &EQUAL_ENABLED);
     all_happen(&rt, &mut firmware, &GREATER_WAITS);
+    Ok(())
+}
+
+/// Three events of which two are equally urgent: the lesser id of the two runs first, then the other.
+const BY_PRIORITY: [Act; 22] = [
+    Act::Store(BASE, 5),
+    Act::Store(BASE + 8, 3),
+    Act::Call(0, 1, [0, 1, 1, BASE, 0], SbiCode::Success),
+    Act::Call(0, 1, [0x10_0000, 1, 1, BASE + 8, 0], SbiCode::Success),
+    Act::Call(0, 1, [GLOBAL, 1, 1, BASE + 8, 0], SbiCode::Success),
+    Act::Call(0, 2, [0, 0x2000, 0, 0, 0], SbiCode::Success),
+    Act::Call(0, 2, [0x10_0000, 0x2000, 0, 0, 0], SbiCode::Success),
+    Act::Call(0, 2, [GLOBAL, 0x2000, 0, 0, 0], SbiCode::Success),
+    Act::Call(0, 4, [0; 5], SbiCode::Success),
+    Act::Call(0, 4, [0x10_0000, 0, 0, 0, 0], SbiCode::Success),
+    Act::Call(0, 4, [GLOBAL, 0, 0, 0, 0], SbiCode::Success),
+    Act::Call(0, 7, [0; 5], SbiCode::Success),
+    Act::Call(0, 7, [0x10_0000, 0, 0, 0, 0], SbiCode::Success),
+    Act::Call(0, 7, [GLOBAL, 0, 0, 0, 0], SbiCode::Success),
+    Act::Deliver(0, None),
+    Act::Call(0, 8, [0; 5], SbiCode::Success),
+    Act::Deliver(0, Some(LOW)),
+    Act::Deliver(0, None),
+    Act::Call(0, 6, [0; 5], SbiCode::Success),
+    Act::Deliver(0, Some(SHARED)),
+    Act::Call(0, 6, [0; 5], SbiCode::Success),
+    Act::Deliver(0, Some(HIGH)),
+];
+
+#[test]
+fn the_most_urgent_runs_first(rt: HostRuntime) -> Result<(), Fail> {
+    let decls = [
+        injectable(0),
+        injectable(0x10_0000),
+        injectable(0xffff_8000),
+    ];
+    let mut firmware = Firmware::new(rt.alloc(), 1, &decls, &[0x1000])?;
+    all_happen(&rt, &mut firmware, &BY_PRIORITY);
     Ok(())
 }
 

@@ -2,6 +2,7 @@
 
 use crate::{AttrRange, EventDecl, Table};
 use sse_base::{EventId, Instance, SbiCode};
+use std::process::Abort;
 use std::test::Fail;
 
 /// An event that software may inject.
@@ -31,34 +32,51 @@ fn codes_in_a_row(rt: HostRuntime) -> Result<(), Fail> {
     Ok(())
 }
 
+/// The first attribute of a range, the values, and what a write of them is answered.
+type Write = (u8, &'static [u64], SbiCode);
+
+/// Writes to an unused local event.
+const TO_A_LOCAL: [Write; 8] = [
+    (0, &[0, 5], SbiCode::Denied),
+    (1, &[5, 1, 0], SbiCode::Denied),
+    (1, &[5], SbiCode::Success),
+    (3, &[0], SbiCode::Denied),
+    (6, &[0], SbiCode::InvalidState),
+    (2, &[2], SbiCode::InvalidParam),
+    (2, &[1], SbiCode::Success),
+    (1, &[5, 2], SbiCode::InvalidParam),
+];
+
+/// Writes to an unused global event of a board of one hart.
+const TO_A_GLOBAL: [Write; 3] = [
+    (3, &[1], SbiCode::InvalidParam),
+    (3, &[0], SbiCode::Success),
+    (1, &[0xffff_ffff, 1, 0], SbiCode::Success),
+];
+
+/// Asks for each write to the one event of a board of one hart.
+fn all_answer(rt: &impl Abort, table: &Table, id: u64, writes: &[Write]) {
+    let Ok(at) = table.find(id, 0) else {
+        assert!(rt; false);
+        return;
+    };
+    for (i, (base, values, wanted)) in writes.iter().enumerate() {
+        assert!(rt; *base <= 10 && values.len() <= (10 - *base) as usize);
+        let range = AttrRange {
+            base: *base,
+            count: values.len() as u8,
+        };
+        let given = table.check_write(at, range, values, false);
+        assert_eq!(rt; given, *wanted, "write {i}");
+    }
+}
+
 #[test]
 fn checks_of_writes(rt: HostRuntime) -> Result<(), Fail> {
     let table = Table::new(rt.alloc(), 1, &[injectable(0xffff_0000)])?;
-    let found = table.find(0xffff_0000, 0);
-    assert!(rt; found.is_ok());
-    if let Ok(at) = found {
-        let two = AttrRange { base: 1, count: 2 };
-        assert_eq!(rt;
-            table.check_write(at, AttrRange { base: 0, count: 2 }, &[0, 5], false),
-            SbiCode::Denied
-        );
-        assert_eq!(rt;
-            table.check_write(at, AttrRange { base: 1, count: 3 }, &[5, 1, 0], false),
-            SbiCode::Denied
-        );
-        assert_eq!(rt;
-            table.check_write(at, AttrRange { base: 1, count: 1 }, &[5], false),
-            SbiCode::Success
-        );
-        assert_eq!(rt;
-            table.check_write(at, AttrRange { base: 6, count: 1 }, &[0], false),
-            SbiCode::InvalidState
-        );
-        assert_eq!(rt;
-            table.check_write(at, two, &[5, 2], false),
-            SbiCode::InvalidParam
-        );
-    }
+    all_answer(&rt, &table, 0xffff_0000, &TO_A_LOCAL);
+    let table = Table::new(rt.alloc(), 1, &[injectable(0xffff_8000)])?;
+    all_answer(&rt, &table, 0xffff_8000, &TO_A_GLOBAL);
     Ok(())
 }
 
