@@ -11,6 +11,3 @@ pub use list::List;
 pub use notes::{Counts, Step, StepNote};
 pub use ops::{Op, OpTable, Placed};
 pub use plan::{LineFault, Plan, Start};
-
-#[cfg(test)]
-mod tests;

@@ -1,5 +1,7 @@
-//! Tests of the top call.
+//! Tests of the top call, and of the ops of a board.
 #![tactic(auto)]
 
+#[cfg(test)]
+mod ops;
 #[cfg(test)]
 mod play;

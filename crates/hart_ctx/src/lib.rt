@@ -6,8 +6,6 @@ mod kept;
 mod memory;
 mod regs;
 mod scan;
-#[cfg(test)]
-mod tests;
 
 pub use contexts::Contexts;
 pub use memory::Memory;

@@ -12,6 +12,3 @@ pub use memory::{MemSink, MemSource};
 pub use outside::{Sink, Source};
 pub use standard::{StdSink, StdSource};
 pub use whole::{ReadAllError, read_all};
-
-#[cfg(test)]
-mod tests;

@@ -11,6 +11,3 @@ pub use line::{Line, put_dec, put_hex, put_signed, put_word};
 pub use lines::first_line;
 pub use numbers::number;
 pub use word_iter::{WordIter, words};
-
-#[cfg(test)]
-mod tests;

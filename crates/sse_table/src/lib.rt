@@ -4,8 +4,6 @@
 mod instances;
 mod start;
 mod table;
-#[cfg(test)]
-mod tests;
 mod writes;
 
 pub use sse_base::{AttrRange, Event, EventDecl, Slot};

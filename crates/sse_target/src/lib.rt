@@ -3,7 +3,5 @@
 
 mod choice;
 mod targets;
-#[cfg(test)]
-mod tests;
 
 pub use targets::Targets;

@@ -2,18 +2,11 @@
 
 ghost use Rattle.std.specs.Prelude.{◌≡◌, ◌<◌};
 
-use crate::Targets;
-use sse_base::{EventDecl, EventId, Instance, SbiCode};
+use crate::acts::injectable;
+use sse_base::{EventId, Instance, SbiCode};
 use sse_table::Table;
+use sse_target::Targets;
 use std::test::Fail;
-
-/// An event that software may inject.
-fn injectable(id: u32) -> EventDecl {
-    EventDecl {
-        id: EventId(id),
-        inject: true,
-    }
-}
 
 /// Lets an event of hart 0, or a global one, wait with this priority.
 #[tactic(auto, unfolding(sse_base::specs::Calls::is_refused_value))]

@@ -1,4 +1,6 @@
-use super::*;
+//! Ops in order and by their address.
+
+use board_plan::{List, Op, OpTable, Placed};
 use std::test::Fail;
 
 #[test]

@@ -1,17 +1,10 @@
 //! The codes of calls in a row on one event, ids, and the order of instances.
 
-use crate::{AttrRange, EventDecl, Table};
-use sse_base::{EventId, Instance, SbiCode};
+use crate::acts::injectable;
+use sse_base::{AttrRange, EventId, Instance, SbiCode};
+use sse_table::Table;
 use std::process::Abort;
 use std::test::Fail;
-
-/// An event that software may inject.
-fn injectable(id: u32) -> EventDecl {
-    EventDecl {
-        id: EventId(id),
-        inject: true,
-    }
-}
 
 #[test]
 fn codes_in_a_row(rt: HostRuntime) -> Result<(), Fail> {

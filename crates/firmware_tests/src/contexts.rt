@@ -1,6 +1,6 @@
 //! Two handlers that nest on one hart, and memory at its edges.
 
-use crate::{Contexts, Memory, Privilege, Regs, Saved, enter, resume};
+use hart_ctx::{Contexts, Memory, Privilege, Regs, Saved, enter, resume};
 use sse_base::{EventId, Instance};
 
 /// What the hart runs before the first delivery.

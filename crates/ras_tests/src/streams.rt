@@ -1,6 +1,10 @@
+//! Sources and sinks over memory and over std, some of which fail.
+
 ghost use Rattle.std.specs.Prelude.{Some};
 
-use super::*;
+use ras_io::{
+    MemSink, MemSource, ReadAllError, Sink, SinkFault, Source, StdSink, StdSource, read_all,
+};
 use std::io;
 use std::io::{Cursor, Write};
 use std::test::Fail;

@@ -1,5 +1,7 @@
-use super::*;
+//! Words, numbers and lines.
+
 use ras_io::{MemSink, Sink, SinkFault};
+use ras_text::{Line, first_line, number, put_dec, put_hex, put_signed, put_word, words};
 use std::alloc::{AllocError, Global};
 use std::test::Fail;
 
