@@ -11,6 +11,3 @@ mod record;
 
 pub use access::Access;
 pub use bank::{Bank, MAX_RECORDS};
-
-#[cfg(test)]
-mod tests;

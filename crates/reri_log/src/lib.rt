@@ -190,6 +190,3 @@ fn number(severity: Severity) -> u8
         Severity::Uec => 2,
     }
 }
-
-#[cfg(test)]
-mod tests;

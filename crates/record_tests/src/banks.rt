@@ -1,8 +1,7 @@
 //! Banks at work: what a reader sees of each record, and calls that name nothing.
 ghost use Rattle.std.specs.Prelude.{◌<◌};
 
-use crate::access::Access;
-use crate::bank::Bank;
+use reri_bank::{Access, Bank};
 use reri_fields::{Logged, Report, Severity};
 use std::test::Fail;
 

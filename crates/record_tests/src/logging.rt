@@ -1,8 +1,8 @@
 //! Worked records: each error's answer, and the status word after it.
 ghost use Rattle.std.specs.Prelude.{◌<◌};
 
-use crate::log;
 use reri_fields::{Logged, RecordCopy, Report, Severity};
+use reri_log::log;
 use std::test::Fail;
 
 fn fresh(control: u64, count: u16) -> RecordCopy {
