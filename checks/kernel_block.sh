@@ -1,5 +1,5 @@
 #!/bin/sh
-# Reads the block that the tests of ghes_block pin with the structures of the Linux kernel, and compares the registers,
+# Reads the block that the tests of records pin with the structures of the Linux kernel, and compares the registers,
 # the severity and the counts. Not part of the gate: it is skipped where there is no C compiler or no kernel header.
 # Debian has the headers in a package: apt-get install linux-headers-6.1.0-55-common (or a newer one).
 set -eu
@@ -15,5 +15,5 @@ if ! command -v cc >/dev/null; then echo "kernel_block: skipped, no C compiler";
 work=$(mktemp -d)
 trap 'rm -rf "$work"' EXIT
 cc -std=gnu11 -Wall -idirafter "$headers" -o "$work/kernel_block" checks/kernel_block.c
-sed -n '/const BLOCK: Block = \[/,/];/p' crates/ghes_block/src/lib.rt | sed '1d;$d' | tr -d ' \n' | "$work/kernel_block"
+sed -n '/const BLOCK: Block = \[/,/];/p' crates/record_tests/src/blocks.rt | sed '1d;$d' | tr -d ' \n' | "$work/kernel_block"
 echo "kernel_block: read by the structures of $headers"
