@@ -1,9 +1,7 @@
 //! The program `rasboard`: it plays the script on standard input and prints the report of its board.
 #![tactic(auto)]
 
-mod failure;
-
-use crate::failure::{Failure, ended};
+use board_end::{Failure, ended};
 use board_run::play;
 use ras_io::{StdSink, StdSource};
 use std::io::{self, ErrorKind};

@@ -3,8 +3,8 @@ use Rattle.std.specs.Prelude.{ℕ, Result, Ok, Err}
 use Rattle.ras_io.specs.declared.faults.SinkFault.{SinkFault}
 use Rattle.board_run.specs.declared.status.Status.{Status}
 use Rattle.board_run.specs.declared.status.Status.TheVariants as answers
-use Rattle.board_prog.specs.declared.failure.Failure.{Failure}
-use Rattle.board_prog.specs.declared.failure.Failure.TheVariants as failures
+use Rattle.board_end.specs.declared.failure.Failure.{Failure}
+use Rattle.board_end.specs.declared.failure.Failure.TheVariants as failures
 
 -- the exit status of each failure
 abbrev pub number_of : Failure → ℕ

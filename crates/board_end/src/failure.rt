@@ -1,7 +1,7 @@
 //! How the program ends where it doesn't end well.
 
 ghost use Rattle.std.specs.Prelude.{◌≡◌};
-ghost use Rattle.board_prog.specs.Endings.{number_of, ending};
+ghost use Rattle.board_end.specs.Endings.{number_of, ending};
 
 use board_plan::LineFault;
 use board_run::Status;
@@ -10,13 +10,18 @@ use thiserror::Error;
 
 /// Why the program failed. Its text is the one line on standard error. The endings are this project's own.
 #[derive(Clone, Copy, Debug, PartialEq, Eq, Error)]
-pub(crate) enum Failure {
+pub enum Failure {
     /// The words are no command.
     #[error("usage: rasboard COMMAND")]
     Usage,
     /// The script is refused at this line.
     #[error("line {line}: {}", word_of(kind))]
-    BadScript { line: u32, kind: LineFault },
+    BadScript {
+        /// The number of the line, from 1.
+        line: u32,
+        /// Why it is refused.
+        kind: LineFault,
+    },
     /// Standard input failed.
     #[error("read fault")]
     ReadFault,
@@ -40,7 +45,7 @@ fn word_of(kind: &LineFault) -> &'static str {
 
 impl Failure {
     /// The status that the process ends with.
-    pub(crate) fn number(&self) -> u8
+    pub fn number(&self) -> u8
         ensures { result ≡ number_of self.now }
     {
         match self {
@@ -56,7 +61,7 @@ impl Failure {
 
 /// How the program ends, by the answer of the command and by what the flush behind it gave. A flush that
 /// fails after a whole report is a write fault.
-pub(crate) fn ended(status: Status, flushed: Result<(), SinkFault>) -> Result<(), Failure>
+pub fn ended(status: Status, flushed: Result<(), SinkFault>) -> Result<(), Failure>
     ensures { result ≡ ending status flushed }
 {
     match status {
