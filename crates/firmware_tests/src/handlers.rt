@@ -85,13 +85,7 @@ const NESTED: [Act; 20] = [
         0,
         Regs {
             pc: 0x2004,
-            privilege: Privilege::Supervisor,
-            sie: false,
-            sepc: 0x1020,
-            spp: true,
-            spie: true,
-            a6: 0,
-            a7: 0xa,
+            ..IN_LOW
         },
     ),
     Act::Call(0, 7, [0; 5], SbiCode::Success),
@@ -104,14 +98,8 @@ const NESTED: [Act; 20] = [
     Act::SetRegs(
         0,
         Regs {
-            pc: 0x3000,
-            privilege: Privilege::Supervisor,
-            sie: false,
             sepc: 0x2008,
-            spp: true,
-            spie: false,
-            a6: 0,
-            a7: 0xb,
+            ..IN_HIGH
         },
     ),
     Act::Oldest(
@@ -129,13 +117,8 @@ const NESTED: [Act; 20] = [
         0,
         Regs {
             pc: 0x2008,
-            privilege: Privilege::Supervisor,
-            sie: false,
             sepc: 0x1030,
-            spp: true,
-            spie: true,
-            a6: 0,
-            a7: 0xa,
+            ..IN_LOW
         },
     ),
     Act::Depth(0, 1),
@@ -144,13 +127,8 @@ const NESTED: [Act; 20] = [
         0,
         Regs {
             pc: 0x1030,
-            privilege: Privilege::Supervisor,
-            sie: true,
             sepc: 0x5550,
-            spp: false,
-            spie: true,
-            a6: 0x11,
-            a7: 0x22,
+            ..QUIET
         },
     ),
     Act::Depth(0, 0),
