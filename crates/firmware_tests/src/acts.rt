@@ -37,6 +37,8 @@ pub enum Act {
     Store(u64, u64),
     /// Somebody sets a hart's registers.
     SetRegs(u8, Regs),
+    /// A hart goes on at another place.
+    SetPc(u8, u64),
     /// A word of memory is so.
     Word(u64, u64),
     /// A hart's registers are so.
@@ -98,6 +100,10 @@ pub fn happens(rt: &impl Abort, i: usize, firmware: &mut Firmware, act: &Act) {
         Act::SetRegs(hart, regs) => {
             assert!(rt; *hart < firmware.harts());
             firmware.set_regs(*hart, regs);
+        }
+        Act::SetPc(hart, pc) => {
+            assert!(rt; *hart < firmware.harts());
+            firmware.set_pc(*hart, *pc);
         }
         _ => holds(rt, i, firmware, act),
     }

@@ -75,6 +75,13 @@ const OF_ATTRIBUTES: [Act; 26] = [
     Act::Word(BASE + 40, 0),
 ];
 
+/// Both words of an accepted write are read again.
+const READ_AGAIN: [Act; 3] = [
+    Act::Call(0, 0, [LOCAL, 1, 2, BASE, 0], SbiCode::Success),
+    Act::Word(BASE, 7),
+    Act::Word(BASE + 8, 1),
+];
+
 #[test]
 fn codes_of_attributes(rt: HostRuntime) -> Result<(), Fail> {
     let mut firmware = Firmware::new(rt.alloc(), 1, &[injectable(0xffff_0000)], &[0x1000])?;
@@ -84,6 +91,7 @@ fn codes_of_attributes(rt: HostRuntime) -> Result<(), Fail> {
     let accepted = firmware.call(0, SSE, 1, [LOCAL, 1, 2, BASE + 8, 0]);
     assert_eq!(rt; accepted.reply.error, SbiCode::Success);
     assert_eq!(rt; accepted.written, [7, 1, 0, 0, 0, 0, 0, 0, 0, 0]);
+    all_happen(&rt, &mut firmware, &READ_AGAIN);
     Ok(())
 }
 

@@ -81,13 +81,7 @@ const NESTED: [Act; 20] = [
             a7: 0x22,
         },
     ),
-    Act::SetRegs(
-        0,
-        Regs {
-            pc: 0x2004,
-            ..IN_LOW
-        },
-    ),
+    Act::SetPc(0, 0x2004),
     Act::Call(0, 7, [0; 5], SbiCode::Success),
     Act::Deliver(0, Some(HIGH)),
     Act::Regs(0, IN_HIGH),
