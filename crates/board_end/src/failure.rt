@@ -3,8 +3,8 @@
 ghost use Rattle.std.specs.Prelude.{◌≡◌};
 ghost use Rattle.board_end.specs.Endings.{number_of, ending};
 
-use board_plan::LineFault;
 use board_run::Status;
+use first_form::LineFault;
 use ras_io::SinkFault;
 use thiserror::Error;
 

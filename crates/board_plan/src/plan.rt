@@ -1,8 +1,34 @@
 //! The plan that a script gives.
 
 use crate::list::List;
+use crate::notes::Step;
 use crate::ops::Placed;
+use ras_device::Act;
 use sse_base::EventDecl;
+
+/// A bank of error records.
+#[derive(Clone, Copy, Debug, PartialEq, Eq)]
+pub struct BankDecl {
+    /// The hart that drains it.
+    pub home: u8,
+    /// Whether its errors are signalled by global events, and not by local ones of the home hart.
+    pub global: bool,
+    /// How many records it has.
+    pub recs: u8,
+    /// The event of the level "platform specific", where one is given.
+    pub plat: Option<u32>,
+    /// How many copies one drain publishes at most, 1 to 4.
+    pub gather: u8,
+}
+
+/// How a record begins.
+#[derive(Clone, Copy, Debug, PartialEq, Eq)]
+pub struct RecDecl {
+    pub bank: u8,
+    pub rec: u8,
+    pub control: u64,
+    pub count: u16,
+}
 
 /// Where a hart begins, and how many steps it may make.
 #[derive(Clone, Copy, Debug, PartialEq, Eq)]
@@ -12,18 +38,50 @@ pub struct Start {
     pub budget: u16,
 }
 
+/// A source of acts: a list of its own, or a device.
+#[derive(Drop)]
+pub struct Reporter {
+    /// The number of the device that gives its acts; None where they are listed here.
+    pub device: Option<u8>,
+    /// How many acts it makes at most.
+    pub limit: u16,
+    /// The acts of a listed reporter, none for a device.
+    pub acts: List<Act>,
+}
+
 /// All that a script states.
 #[derive(Drop)]
 pub struct Plan {
+    /// The version of the script, 1 or 2.
+    pub version: u8,
     pub harts: u8,
     pub events: List<EventDecl>,
+    pub banks: List<BankDecl>,
+    pub recs: List<RecDecl>,
     pub ops: List<Placed>,
     pub starts: List<Start>,
+    pub reporters: List<Reporter>,
+    /// The steps that are tried, where the script gives them.
+    pub schedule: Option<List<Step>>,
 }
 
-/// Why a line of a script is refused.
+/// Why a line of a script is refused. This project's own.
 #[derive(Clone, Copy, Debug, PartialEq, Eq)]
 pub enum LineFault {
-    /// The text isn't a script of this version.
+    /// The text doesn't begin with a board of a known version, or has no statement at all.
     Head,
+    /// A word is none of those that may stand there.
+    Word,
+    /// The number of words isn't that of the form.
+    Count,
+    /// A word spells no number below 2^64.
+    Number,
+    /// A number is out of its range.
+    Range,
+    /// The thing that is named wasn't declared before.
+    Unknown,
+    /// The thing was given before.
+    Twice,
+    /// There is no room for one more.
+    Full,
 }

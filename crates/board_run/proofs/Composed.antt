@@ -4,11 +4,11 @@ use Rattle.std.specs.Io.KnownBytes.{Consumes, IsAtEnd}
 use Rattle.std.proofs.KnownBytes.{Consumes-whole}
 use Rattle.ras_io.specs.Causes.{Puts, AppendsFront}
 use Rattle.ras_io.specs.declared.faults.SinkFault.{SinkFault}
-use Rattle.board_plan.specs.declared.notes.Step.{Step}
-use Rattle.board_plan.specs.FirstForm.{first_form}
-use Rattle.board_plan.specs.Step.{BoardState, start_state}
-use Rattle.board_plan.specs.Run.{run}
-use Rattle.board_plan.specs.Text.{bytes_of, full_lines}
+use Rattle.first_form.specs.declared.notes.Step.{Step}
+use Rattle.first_form.specs.FirstForm.{first_form}
+use Rattle.first_form.specs.Step.{BoardState, start_state}
+use Rattle.first_form.specs.Run.{run}
+use Rattle.first_form.specs.Text.{bytes_of, full_lines}
 use Rattle.board_run.specs.declared.script.Script.{Script}
 use Rattle.board_run.specs.Reading.{plan_of}
 use Rattle.board_run.specs.Rounds.{IsRun}

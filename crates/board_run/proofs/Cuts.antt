@@ -2,7 +2,7 @@
 use Rattle.std.proofs.Common.{◌≡◌, ◌≢◌, ℕ, zero, suc, ◌<◌, Bool, cond, List, [], ◌∷◌, length, take, drop, get_or, refl, ap, ◌∙◌, arith}
 use Rattle.std.proofs.lemmas.Bool.{eq-eqb, ne_eqb}
 use Rattle.std.specs.List.{onto_first, slice_split}
-use Rattle.board_plan.specs.FirstForm.{is_byte}
+use Rattle.first_form.specs.FirstForm.{is_byte}
 
 -- the parts of a text where b stands before t
 abbrev at_head : ℕ → ℕ → List ℕ → Bool → List (List ℕ)

@@ -1,8 +1,8 @@
 -- Reading line by line.
 use Rattle.std.proofs.Common.{◌≡◌, ℕ, ◌<◌, Bool, true, false, cond, List, [], ◌∷◌, length, Option, Some, None, Result, refl, sym, ap, ◌∙◌, subst, arith}
 use Rattle.std.specs.List.{onto_first}
-use Rattle.board_plan.specs.declared.plan.Plan.{Plan}
-use Rattle.board_plan.specs.FirstForm.{Half, is_byte, pieces, fields, is_end, start_line, middle_line, following, from_pieces, first_form, ◌>>=◌}
+use Rattle.first_form.specs.declared.plan.Plan.{Plan}
+use Rattle.first_form.specs.FirstForm.{Half, is_byte, pieces, fields, is_end, start_line, middle_line, following, from_pieces, first_form, ◌>>=◌}
 use Rattle.board_run.specs.declared.script.Script.{Script}
 use Rattle.board_run.specs.declared.reading.ReadFault.{ReadFault}
 use Rattle.board_run.specs.declared.reading.ReadFault.TheVariants.{NotFirstForm, NoMemory}

@@ -5,8 +5,8 @@ use Rattle.ras_text.specs.Numbers.{hexadecimal}
 use Rattle.hart_ctx.specs.declared.regs.Regs.{Regs}
 use Rattle.hart_ctx.specs.Registers.{live_of, triple_in}
 use Rattle.sse_base.specs.Contexts.{bit, privilege_at, privilege_bit}
-use Rattle.board_plan.specs.declared.notes.Counts.{Counts}
-use Rattle.board_plan.specs.Text.{field, bit_text, privilege_text, context_text, counts_text}
+use Rattle.first_form.specs.declared.notes.Counts.{Counts}
+use Rattle.first_form.specs.Text.{field, bit_text, privilege_text, context_text, counts_text}
 
 -- a name and a value behind a text
 pub field-put : (old name value : List ℕ) → (((old ++ 32 ∷ []) ++ name) ++ 32 ∷ []) ++ value ≡ old ++ field name value

@@ -5,7 +5,7 @@ use Rattle.sse_base.specs.declared.contexts.Privilege.TheVariants.{User, Supervi
 use Rattle.sse_base.specs.Contexts.{Stack, top_triple, privilege_at}
 use Rattle.hart_ctx.specs.declared.regs.Regs.{Regs}
 use Rattle.hart_ctx.specs.Registers.{is_supervisor, live_of, triple_in, regs_of}
-use Rattle.board_plan.specs.Text.{context_text}
+use Rattle.first_form.specs.Text.{context_text}
 
 spp-again : (p : Privilege) → privilege_at (is_supervisor p) ≡ p
 spp-again User = refl

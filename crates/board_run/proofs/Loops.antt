@@ -1,15 +1,15 @@
 -- The rounds of a board of one hart.
 use Rattle.std.proofs.Common.{◌≡◌, ℕ, suc, ◌<◌, ◌≤◌, List, [], ◌∷◌, ◌++◌, map, length, Option, Some, None, refl, sym, ap, ◌∙◌, arith, ◌+◌, true, false, length-append, append-nil, below_more, subst, is_some, IfSome, IfNone}
 use Rattle.sbi_sse.specs.Start.{start_machine}
-use Rattle.board_plan.specs.declared.notes.Step.{Step}
-use Rattle.board_plan.specs.declared.notes.Step.TheVariants.{Hart}
-use Rattle.board_plan.specs.declared.notes.StepNote.{StepNote}
-use Rattle.board_plan.specs.declared.ops.Placed.{Placed}
-use Rattle.board_plan.specs.declared.plan.Plan.{Plan}
-use Rattle.board_plan.specs.FirstForm.{first_plan, software_event}
-use Rattle.board_plan.specs.Step.{BoardState, step, hart_step, start_state, no_counts}
-use Rattle.board_plan.specs.Run.{Noted, state_after, noted, run, rounds, round, steps_made}
-use Rattle.board_plan.proofs.Runs.{run-append, notes-append}
+use Rattle.first_form.specs.declared.notes.Step.{Step}
+use Rattle.first_form.specs.declared.notes.Step.TheVariants.{Hart}
+use Rattle.first_form.specs.declared.notes.StepNote.{StepNote}
+use Rattle.first_form.specs.declared.ops.Placed.{Placed}
+use Rattle.first_form.specs.declared.plan.Plan.{Plan}
+use Rattle.first_form.specs.FirstForm.{first_plan, software_event}
+use Rattle.first_form.specs.Step.{BoardState, step, hart_step, start_state, no_counts}
+use Rattle.first_form.specs.Run.{Noted, state_after, noted, run, rounds, round, steps_made}
+use Rattle.first_form.proofs.Runs.{run-append, notes-append}
 use Rattle.board_run.specs.OneHart.{board_of, stepped}
 use Rattle.board_run.specs.Rounds.{IsAfter, IsRun}
 

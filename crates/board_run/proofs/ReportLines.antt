@@ -11,10 +11,10 @@ use Rattle.sse_base.specs.Events.{Events, slots}
 use Rattle.sse_base.specs.Contexts.{Stack, fresh_stack}
 use Rattle.sse_base.specs.Machine.{Machine, stack_of}
 use Rattle.sse_base.specs.Choice.{is_masked}
-use Rattle.board_plan.specs.declared.notes.Counts.{Counts}
-use Rattle.board_plan.specs.declared.notes.Step.{Step}
-use Rattle.board_plan.specs.Step.{BoardState}
-use Rattle.board_plan.specs.Text.{bytes_of, head_line, hart_line, hart_lines, frame_line, frame_lines, event_line, fates_line, word_line, word_lines, schedule_lines, end_line, full_lines}
+use Rattle.first_form.specs.declared.notes.Counts.{Counts}
+use Rattle.first_form.specs.declared.notes.Step.{Step}
+use Rattle.first_form.specs.Step.{BoardState}
+use Rattle.first_form.specs.Text.{bytes_of, head_line, hart_line, hart_lines, frame_line, frame_lines, event_line, fates_line, word_line, word_lines, schedule_lines, end_line, full_lines}
 use Rattle.board_run.specs.Told.{told_line, told_lines, report_of}
 
 pub bytes_of-append : (xs ys : List (List ℕ)) → bytes_of (xs ++ ys) ≡ bytes_of xs ++ bytes_of ys

@@ -1,9 +1,9 @@
 -- The board of one hart over its firmware, against the board book. No public clause cites this.
 use Rattle.std.specs.Prelude.{[], ◌∷◌, Option, Some, None}
 use Rattle.sse_base.specs.Machine.{Machine, Reach}
-use Rattle.board_plan.specs.declared.notes.Counts.{Counts}
-use Rattle.board_plan.specs.declared.notes.StepNote.{StepNote}
-use Rattle.board_plan.specs.Step.{BoardState, Stepped, Made}
+use Rattle.first_form.specs.declared.notes.Counts.{Counts}
+use Rattle.first_form.specs.declared.notes.StepNote.{StepNote}
+use Rattle.first_form.specs.Step.{BoardState, Stepped, Made}
 
 abbrev pub board_of : Machine → Counts → BoardState
 board_of m counts = record { machine = m; counts = counts ∷ []; steps = counts.steps }

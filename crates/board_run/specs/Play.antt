@@ -3,12 +3,12 @@ use Rattle.std.specs.Prelude.{◌≡◌, ◌⊎◌, ℕ, nat_lt, Bool, true, fal
 use Rattle.std.specs.Borrow.{Bor}
 use Rattle.std.specs.Io.KnownBytes.{Appends}
 use Rattle.ras_io.specs.Causes.{AppendsFront}
-use Rattle.board_plan.specs.declared.notes.Step.{Step}
-use Rattle.board_plan.specs.declared.plan.Plan.{Plan}
-use Rattle.board_plan.specs.declared.plan.LineFault.TheVariants.{Head}
-use Rattle.board_plan.specs.FirstForm.{first_form, Reads}
-use Rattle.board_plan.specs.Run.{AreTries}
-use Rattle.board_plan.specs.Text.{full}
+use Rattle.first_form.specs.declared.notes.Step.{Step}
+use Rattle.first_form.specs.declared.plan.Plan.{Plan}
+use Rattle.first_form.specs.declared.plan.LineFault.TheVariants.{Head}
+use Rattle.first_form.specs.FirstForm.{first_form, Reads}
+use Rattle.first_form.specs.Run.{AreTries}
+use Rattle.first_form.specs.Text.{full}
 use Rattle.board_run.specs.declared.status.Status.{Status}
 use Rattle.board_run.specs.declared.status.Status.TheVariants as answers
 

@@ -1,8 +1,8 @@
 -- What the reader of a script answers, against the book. No public clause cites this.
 use Rattle.std.specs.Prelude.{◌≡◌, ℕ, List, map, Option, Some, None, Result, Ok, Err}
 use Rattle.std.specs.Borrow.{Bor}
-use Rattle.board_plan.specs.declared.plan.Plan.{Plan}
-use Rattle.board_plan.specs.FirstForm.{first_plan}
+use Rattle.first_form.specs.declared.plan.Plan.{Plan}
+use Rattle.first_form.specs.FirstForm.{first_plan}
 use Rattle.board_run.specs.declared.script.Script.{Script}
 use Rattle.board_run.specs.declared.reading.ReadFault.{ReadFault}
 use Rattle.board_run.specs.declared.reading.ReadFault.TheVariants.{NotFirstForm, NoMemory}

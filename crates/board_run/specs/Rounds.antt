@@ -1,9 +1,9 @@
 -- What a run's loop keeps, against the board book. No public clause cites this.
 use Rattle.std.specs.Prelude.{◌≡◌, ℕ, suc, ◌<◌, List, length}
-use Rattle.board_plan.specs.declared.notes.Step.{Step}
-use Rattle.board_plan.specs.declared.plan.Plan.{Plan}
-use Rattle.board_plan.specs.Step.{BoardState, start_state}
-use Rattle.board_plan.specs.Run.{run, rounds, steps_made, AreTries}
+use Rattle.first_form.specs.declared.notes.Step.{Step}
+use Rattle.first_form.specs.declared.plan.Plan.{Plan}
+use Rattle.first_form.specs.Step.{BoardState, start_state}
+use Rattle.first_form.specs.Run.{run, rounds, steps_made, AreTries}
 
 -- after so many rounds, of which each made a step
 pub record IsAfter (plan : Plan) (s : BoardState) (steps : List Step) (n : ℕ) : Type 0 where

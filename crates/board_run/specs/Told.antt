@@ -6,9 +6,9 @@ use Rattle.sse_base.specs.Ids.{id_of}
 use Rattle.hart_ctx.specs.declared.regs.Saved.{Saved}
 use Rattle.sse_base.specs.Events.{Events, slots}
 use Rattle.sse_base.specs.Contexts.{Stack}
-use Rattle.board_plan.specs.declared.notes.Counts.{Counts}
-use Rattle.board_plan.specs.declared.notes.Step.{Step}
-use Rattle.board_plan.specs.Text.{field, bytes_of, head_line, hart_line, frame_lines, event_line, fates_line, word_lines, schedule_lines, end_line}
+use Rattle.first_form.specs.declared.notes.Counts.{Counts}
+use Rattle.first_form.specs.declared.notes.Step.{Step}
+use Rattle.first_form.specs.Text.{field, bytes_of, head_line, hart_line, frame_lines, event_line, fates_line, word_lines, schedule_lines, end_line}
 
 unfoldable pub told_line : ℕ → ℕ → Instance → Saved → List ℕ
 told_line h number at saved =

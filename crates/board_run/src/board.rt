@@ -6,8 +6,8 @@ ghost use Rattle.sse_base.specs.Codes.{is_success};
 ghost use Rattle.sse_base.specs.Contexts.{fresh_stack};
 ghost use Rattle.sse_base.specs.Words.{load};
 ghost use Rattle.sbi_sse.specs.Start.{start_machine};
-ghost use Rattle.board_plan.specs.FirstForm.{software_event};
-ghost use Rattle.board_plan.specs.Step.{
+ghost use Rattle.first_form.specs.FirstForm.{software_event};
+ghost use Rattle.first_form.specs.Step.{
   past,
   risen,
   sbi,
@@ -21,7 +21,7 @@ ghost use Rattle.board_plan.specs.Step.{
 };
 ghost use Rattle.board_run.specs.OneHart.{board_of, made, stepped};
 
-use board_plan::{Counts, Op, OpTable, StepNote};
+use first_form::{Counts, Op, OpTable, StepNote};
 use ras_io::NoMemory;
 use sbi_sse::{CallNote, Firmware};
 use sse_base::{EventDecl, EventId, Privilege, SbiCode};
@@ -37,7 +37,7 @@ pub(crate) struct Board {
 
 impl Model for Board {
     ghost use Rattle.std.specs.Prelude.{◌≡◌, ◌≤◌};
-    ghost use Rattle.board_plan.specs.Step.{BoardState};
+    ghost use Rattle.first_form.specs.Step.{BoardState};
 
     ghost Value = { BoardState };
 

@@ -5,9 +5,9 @@ ghost use Rattle.std.specs.Fmt.{signed_decimal};
 ghost use Rattle.ras_text.specs.Numbers.{hexadecimal};
 ghost use Rattle.ras_text.specs.Lines.{text_of, sink_of, SameSink};
 ghost use Rattle.hart_ctx.specs.Registers.{live_of, triple_in};
-ghost use Rattle.board_plan.specs.Text.{field, bit_text, privilege_text, context_text, counts_text};
+ghost use Rattle.first_form.specs.Text.{field, bit_text, privilege_text, context_text, counts_text};
 
-use board_plan::Counts;
+use first_form::Counts;
 use hart_ctx::Regs;
 use ras_io::Sink;
 use ras_text::{Line, put_dec, put_hex, put_signed, put_word};

@@ -2,7 +2,7 @@
 
 ghost use Rattle.std.specs.Prelude.{◌≡◌, ◌+◌, ◌≤◌, ◌<◌, ◌++◌, ◌∷◌, [], length, codes};
 ghost use Rattle.ras_text.specs.Lines.{text_of, sink_of, SameSink};
-ghost use Rattle.board_plan.specs.Text.{
+ghost use Rattle.first_form.specs.Text.{
   field,
   head_line,
   hart_line,
@@ -20,7 +20,7 @@ ghost use Rattle.board_run.specs.Told.{told_line};
 use crate::fields::{
     put_bit_field, put_context, put_counts, put_dec_field, put_hex_field, put_word_field,
 };
-use board_plan::{Counts, Step};
+use first_form::{Counts, Step};
 use hart_ctx::Saved;
 use ras_io::Sink;
 use ras_text::{Line, put_dec, put_hex, put_word};
@@ -28,7 +28,7 @@ use sbi_sse::Firmware;
 use sse_base::{Instance, Slot, State};
 
 /// What was made, on which board.
-#[tactic(auto, unfolding(board_plan::specs::Text::head_line))]
+#[tactic(auto, unfolding(first_form::specs::Text::head_line))]
 pub(crate) fn put_head<K: Sink>(line: &mut Line<'_, K>, harts: u64, steps: u64)
     requires { text_of line.old ≡ [] }
     ensures text { text_of line.new ≡ head_line harts steps }
@@ -44,7 +44,7 @@ pub(crate) fn put_head<K: Sink>(line: &mut Line<'_, K>, harts: u64, steps: u64)
 }
 
 /// A hart.
-#[tactic(auto, using(crate::proofs::LineTexts::hart), unfolding(board_plan::specs::Text::hart_line))]
+#[tactic(auto, using(crate::proofs::LineTexts::hart), unfolding(first_form::specs::Text::hart_line))]
 pub(crate) fn put_hart<K: Sink>(
     line: &mut Line<'_, K>,
     hart: u8,
@@ -121,7 +121,7 @@ fn number_of(state: State) -> u64
 }
 
 /// An instance with its attributes.
-#[tactic(auto, unfolding(board_plan::specs::Text::event_line))]
+#[tactic(auto, unfolding(first_form::specs::Text::event_line))]
 pub(crate) fn put_event<K: Sink>(line: &mut Line<'_, K>, slot: &Slot)
     requires { text_of line.old ≡ [] }
     ensures text { text_of line.new ≡ event_line slot.now }
@@ -155,7 +155,7 @@ pub(crate) fn put_fates<K: Sink>(line: &mut Line<'_, K>)
 }
 
 /// A word of memory.
-#[tactic(auto, unfolding(board_plan::specs::Text::word_line))]
+#[tactic(auto, unfolding(first_form::specs::Text::word_line))]
 pub(crate) fn put_memory_word<K: Sink>(line: &mut Line<'_, K>, addr: u64, word: u64)
     requires { text_of line.old ≡ [] }
     ensures text { text_of line.new ≡ word_line addr word }
@@ -183,7 +183,7 @@ fn put_entry<K: Sink>(line: &mut Line<'_, K>, step: Step)
 }
 
 /// Up to 16 entries of a schedule.
-#[tactic(auto, unfolding(board_plan::specs::Text::schedule_line))]
+#[tactic(auto, unfolding(first_form::specs::Text::schedule_line))]
 pub(crate) fn put_schedule<K: Sink>(line: &mut Line<'_, K>, entries: &[Step])
     requires empty { text_of line.old ≡ [] }
     requires few { length entries.now ≤ 16 }

@@ -3,14 +3,14 @@
 ghost use Rattle.std.specs.Prelude.{◌≡◌, ◌↔◌, ℕ, ◌<◌, true, false, None, IfSome, length};
 ghost use Rattle.std.specs.Io.KnownBytes.{IsAtEnd};
 ghost use Rattle.ras_io.specs.Causes.{Rose};
-ghost use Rattle.board_plan.specs.FirstForm.{first_form};
+ghost use Rattle.first_form.specs.FirstForm.{first_form};
 ghost use Rattle.board_run.specs.Play.{is_command, limit, WritesReport, WritesFront, Answers, is_silent};
 
 use crate::reading::{ReadFault, read};
 use crate::report::write_report;
 use crate::rounds::play_rounds;
 use crate::status::Status;
-use board_plan::LineFault;
+use first_form::LineFault;
 use ras_io::{ReadAllError, Sink, Source, read_all};
 use std::alloc::Global;
 

@@ -2,7 +2,7 @@
 
 ghost use Rattle.std.specs.Prelude.{◌≡◌, ◌≢◌, ℕ, ◌<◌, ◌≤◌, [], ◌∷◌, length, drop, slice_index, bytes_eq, true, OnOk, IfNone, IfSome};
 ghost use Rattle.std.specs.List.{slice_split};
-ghost use Rattle.board_plan.specs.FirstForm.{
+ghost use Rattle.first_form.specs.FirstForm.{
   Half as HalfRead,
   begun,
   is_byte,
@@ -26,7 +26,7 @@ ghost use Rattle.ras_text.specs.Numbers.{number};
 ghost use Rattle.board_run.specs.Reading.{texts, Gives, GivesPlan, Moves};
 
 use crate::script::Script;
-use board_plan::{Op, OpTable, Placed};
+use first_form::{Op, OpTable, Placed};
 use ras_io::NoMemory;
 use ras_text::number;
 use std::alloc::Global;
@@ -115,7 +115,7 @@ fn number_of(word: &[u8]) -> Result<u64, ReadFault>
     number(word).ok_or(ReadFault::NotFirstForm)
 }
 
-#[tactic(auto, unfolding(board_plan::specs::FirstForm::is_address))]
+#[tactic(auto, unfolding(first_form::specs::FirstForm::is_address))]
 fn is_address(n: u64) -> bool
     ensures same { result ≡ is_address n }
     ensures small { result ≡ true → n ≤ 0xffff0000 }
@@ -123,7 +123,7 @@ fn is_address(n: u64) -> bool
     n % 2 == 0 && n <= 0xffff0000
 }
 
-#[tactic(auto, unfolding(board_plan::specs::FirstForm::argument_at))]
+#[tactic(auto, unfolding(first_form::specs::FirstForm::argument_at))]
 fn argument_at(words: &[&[u8]], i: usize) -> Result<u64, ReadFault>
     ensures { Gives result (argument_at (texts words.now) i) }
 {
@@ -133,7 +133,7 @@ fn argument_at(words: &[&[u8]], i: usize) -> Result<u64, ReadFault>
     }
 }
 
-#[tactic(auto, unfolding(board_plan::specs::FirstForm::arguments))]
+#[tactic(auto, unfolding(first_form::specs::FirstForm::arguments))]
 fn arguments(words: &[&[u8]]) -> Result<[u64; 5], ReadFault>
     ensures { Gives result (arguments (texts words.now)) }
 {
@@ -157,7 +157,7 @@ struct Half {
 
 impl Model for Half {
     ghost use Rattle.std.specs.Prelude.{ℕ, ◌+◌, ◌*◌, ◌≤◌, length};
-    ghost use Rattle.board_plan.specs.FirstForm.{Half as HalfRead};
+    ghost use Rattle.first_form.specs.FirstForm.{Half as HalfRead};
 
     ghost Value = { HalfRead };
 
@@ -176,7 +176,7 @@ impl Half {
         }
     }
 
-    #[tactic(auto, unfolding(board_plan::specs::FirstForm::placed))]
+    #[tactic(auto, unfolding(first_form::specs::FirstForm::placed))]
     fn place(&mut self, op: Op) -> Result<(), ReadFault>
         ensures { Moves result self.new (placed self.old op) }
     {
@@ -191,7 +191,7 @@ impl Half {
         Ok(())
     }
 
-    #[tactic(auto, unfolding(board_plan::specs::FirstForm::at_line))]
+    #[tactic(auto, unfolding(first_form::specs::FirstForm::at_line))]
     fn at_line(&mut self, words: &[&[u8]]) -> Result<(), ReadFault>
         ensures { Moves result self.new (at_line self.old (texts words.now)) }
     {
@@ -206,7 +206,7 @@ impl Half {
         Ok(())
     }
 
-    #[tactic(auto, unfolding(board_plan::specs::FirstForm::inc_line))]
+    #[tactic(auto, unfolding(first_form::specs::FirstForm::inc_line))]
     fn inc_line(&mut self, words: &[&[u8]]) -> Result<(), ReadFault>
         ensures { Moves result self.new (inc_line self.old (texts words.now)) }
     {
@@ -217,7 +217,7 @@ impl Half {
         self.place(Op::Inc { addr })
     }
 
-    #[tactic(auto, unfolding(board_plan::specs::FirstForm::sbi_line))]
+    #[tactic(auto, unfolding(first_form::specs::FirstForm::sbi_line))]
     fn sbi_line(&mut self, words: &[&[u8]]) -> Result<(), ReadFault>
         ensures { Moves result self.new (sbi_line self.old (texts words.now)) }
     {
@@ -230,7 +230,7 @@ impl Half {
         self.place(Op::Sbi { eid, fid, args })
     }
 
-    #[tactic(auto, unfolding(board_plan::specs::FirstForm::op_line))]
+    #[tactic(auto, unfolding(first_form::specs::FirstForm::op_line))]
     fn op_line(&mut self, words: &[&[u8]]) -> Result<(), ReadFault>
         ensures { Moves result self.new (op_line self.old (texts words.now)) }
     {
@@ -246,7 +246,7 @@ impl Half {
         Err(ReadFault::NotFirstForm)
     }
 
-    #[tactic(auto, unfolding(board_plan::specs::FirstForm::middle_line))]
+    #[tactic(auto, unfolding(first_form::specs::FirstForm::middle_line))]
     fn middle_line(&mut self, words: &[&[u8]]) -> Result<(), ReadFault>
         ensures { Moves result self.new (middle_line self.old (texts words.now)) }
     {
@@ -262,7 +262,7 @@ impl Half {
         Err(ReadFault::NotFirstForm)
     }
 
-    #[tactic(auto, unfolding(board_plan::specs::FirstForm::start_of_words))]
+    #[tactic(auto, unfolding(first_form::specs::FirstForm::start_of_words))]
     fn start(self, pc: &[u8], budget: &[u8]) -> Result<Script, ReadFault>
         ensures { GivesPlan result (start_of_words self pc.now budget.now) }
     {
@@ -279,7 +279,7 @@ impl Half {
         })
     }
 
-    #[tactic(auto, unfolding(board_plan::specs::FirstForm::start_line))]
+    #[tactic(auto, unfolding(first_form::specs::FirstForm::start_line))]
     fn start_line(self, words: &[&[u8]]) -> Result<Script, ReadFault>
         ensures { GivesPlan result (start_line self (texts words.now)) }
     {
@@ -317,7 +317,7 @@ fn following(alloc: Global, text: &[u8]) -> Result<Script, ReadFault>
 }
 
 /// Reads a text. NotFirstForm comes exactly where it is not of the first form.
-#[tactic(auto, unfolding(board_plan::specs::FirstForm::first_form, board_plan::specs::FirstForm::from_pieces))]
+#[tactic(auto, unfolding(first_form::specs::FirstForm::first_form, first_form::specs::FirstForm::from_pieces))]
 pub(crate) fn read(alloc: Global, text: &[u8]) -> Result<Script, ReadFault>
     ensures { GivesPlan result (first_form text.now) }
 {

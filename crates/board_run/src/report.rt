@@ -3,7 +3,7 @@
 ghost use Rattle.std.specs.Prelude.{◌≡◌, ◌*◌, ◌<◌, ◌≤◌, ◌∷◌, [], length, map};
 ghost use Rattle.ras_io.specs.Causes.{HasCause, Puts};
 ghost use Rattle.ras_text.specs.Lines.{text_of, sink_of, SameSink};
-ghost use Rattle.board_plan.specs.Text.{
+ghost use Rattle.first_form.specs.Text.{
   bytes_of,
   head_line,
   hart_line,
@@ -24,7 +24,7 @@ use crate::board::Board;
 use crate::lines::{
     put_event, put_fates, put_frame, put_hart, put_head, put_memory_word, put_schedule,
 };
-use board_plan::{Counts, Step};
+use first_form::{Counts, Step};
 use ras_io::{Sink, SinkFault};
 use ras_text::{Line, put_word};
 use sbi_sse::Firmware;
@@ -107,7 +107,7 @@ fn write_words<K: Sink>(line: &mut Line<'_, K>, words: &[u64]) -> Result<(), Sin
 }
 
 /// The entries of one line of the schedule.
-#[tactic(auto, unfolding(board_plan::specs::Text::entries_of_line))]
+#[tactic(auto, unfolding(first_form::specs::Text::entries_of_line))]
 fn entries_of(steps: &[Step], k: usize) -> &[Step]
     requires { 16 * k ≤ length steps.now }
     ensures entries { result.now ≡ entries_of_line steps.now k }

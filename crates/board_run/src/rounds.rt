@@ -6,7 +6,7 @@ ghost use Rattle.board_run.specs.Rounds.{IsRun};
 
 use crate::board::Board;
 use crate::script::Script;
-use board_plan::Step;
+use first_form::Step;
 use ras_io::NoMemory;
 use std::alloc::Global;
 

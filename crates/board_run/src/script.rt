@@ -2,7 +2,7 @@
 
 ghost use Rattle.std.specs.Prelude.{◌≤◌};
 
-use board_plan::OpTable;
+use first_form::OpTable;
 
 /// The ops, where the hart begins, and how many steps it may make.
 #[derive(Drop)]

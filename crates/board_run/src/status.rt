@@ -1,6 +1,6 @@
 //! What the top call answers.
 
-use board_plan::LineFault;
+use first_form::LineFault;
 
 /// How a command ended.
 #[derive(Clone, Copy, Debug, PartialEq, Eq)]

@@ -1,6 +1,6 @@
 //! Ops in order and by their address.
 
-use board_plan::{List, Op, OpTable, Placed};
+use first_form::{List, Op, OpTable, Placed};
 use std::test::Fail;
 
 #[test]

@@ -2,8 +2,8 @@
 
 ghost use Rattle.std.specs.Prelude.{Some};
 
-use board_plan::LineFault;
 use board_run::{Status, play};
+use first_form::LineFault;
 use ras_io::{MemSink, MemSource, Sink, SinkFault};
 use std::alloc::{AllocError, Global};
 use std::test::Fail;

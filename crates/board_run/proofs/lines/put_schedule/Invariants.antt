@@ -1,7 +1,7 @@
 use Rattle.std.proofs.Common.{◌≡◌, ◌+◌, ◌*◌, ◌≤◌, ◌++◌, codes, length, take}
 use Rattle.std.specs.List.{flat_map}
 use Rattle.ras_text.specs.Lines.{text_of, sink_of, SameSink}
-use Rattle.board_plan.specs.Text.{entry_text}
+use Rattle.first_form.specs.Text.{entry_text}
 use Rattle.board_run.proofs.lines.put_schedule.Given as goal
 
 abbrev pub invariant-loop-entry : goal.invariant-loop-entry

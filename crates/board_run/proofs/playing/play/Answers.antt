@@ -1,8 +1,8 @@
 use Rattle.std.proofs.Common.{List, refl, sym, ap, ◌∙◌}
 use Rattle.ras_io.proofs.Puts.{Puts-same}
-use Rattle.board_plan.specs.declared.notes.Step.{Step}
-use Rattle.board_plan.specs.FirstForm.{first_form}
-use Rattle.board_plan.specs.Text.{bytes_of, full_lines}
+use Rattle.first_form.specs.declared.notes.Step.{Step}
+use Rattle.first_form.specs.FirstForm.{first_form}
+use Rattle.first_form.specs.Text.{bytes_of, full_lines}
 use Rattle.board_run.proofs.Composed.{writes-front}
 use Rattle.board_run.proofs.playing.play.Goals as goal
 

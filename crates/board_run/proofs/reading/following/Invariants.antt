@@ -1,5 +1,5 @@
 use Rattle.std.proofs.Common.{◌≡◌, length}
-use Rattle.board_plan.specs.FirstForm.{following, begun, pieces}
+use Rattle.first_form.specs.FirstForm.{following, begun, pieces}
 use Rattle.board_run.proofs.reading.following.Given as goal
 
 abbrev pub invariant-loop-line : goal.invariant-loop-line

@@ -1,5 +1,5 @@
 use Rattle.std.proofs.Common.{◌≡◌, ◌++◌, length}
-use Rattle.board_plan.specs.FirstForm.{fields}
+use Rattle.first_form.specs.FirstForm.{fields}
 use Rattle.board_run.specs.Reading.{texts}
 use Rattle.board_run.proofs.reading.gather.Given as goal
 

@@ -1,7 +1,7 @@
 use Rattle.std.proofs.Common.{◌≡◌, [], map, drop}
 use Rattle.sse_base.specs.Events.{slots}
 use Rattle.ras_text.specs.Lines.{text_of, sink_of, SameSink}
-use Rattle.board_plan.specs.Text.{bytes_of, event_line}
+use Rattle.first_form.specs.Text.{bytes_of, event_line}
 use Rattle.board_run.proofs.Progress.{Progress}
 use Rattle.board_run.proofs.report.write_events.Given as goal
 

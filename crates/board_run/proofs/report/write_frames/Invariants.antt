@@ -3,7 +3,7 @@ use Rattle.hart_ctx.specs.Running.{running_in}
 use Rattle.board_run.specs.Told.{told_lines}
 use Rattle.sse_base.specs.Machine.{stack_of}
 use Rattle.ras_text.specs.Lines.{text_of, sink_of, SameSink}
-use Rattle.board_plan.specs.Text.{bytes_of, frame_lines}
+use Rattle.first_form.specs.Text.{bytes_of, frame_lines}
 use Rattle.board_run.proofs.Progress.{Progress}
 use Rattle.board_run.proofs.report.write_frames.Given as goal
 

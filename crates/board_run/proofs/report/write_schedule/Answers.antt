@@ -1,6 +1,6 @@
 use Rattle.std.proofs.Common.{ℕ, List, [], ◌∷◌, ◌++◌, refl, ap, ◌∙◌, arith}
 use Rattle.ras_io.proofs.Puts.{Puts-same}
-use Rattle.board_plan.specs.Text.{schedule_line, entries_of_line}
+use Rattle.first_form.specs.Text.{schedule_line, entries_of_line}
 use Rattle.board_run.proofs.Progress.{progress-more, progress-fault, progress-same}
 use Rattle.board_run.proofs.ReportLines.{entries-next}
 use Rattle.board_run.proofs.report.write_schedule.Goals as goal

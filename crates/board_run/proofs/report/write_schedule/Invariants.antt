@@ -1,7 +1,7 @@
 use Rattle.std.proofs.Common.{◌≡◌, ◌-◌, [], map}
 use Rattle.std.specs.List.{range_with_len}
 use Rattle.ras_text.specs.Lines.{text_of, sink_of, SameSink}
-use Rattle.board_plan.specs.Text.{bytes_of, schedule_line, entries_of_line, schedule_lines}
+use Rattle.first_form.specs.Text.{bytes_of, schedule_line, entries_of_line, schedule_lines}
 use Rattle.board_run.proofs.Progress.{Progress}
 use Rattle.board_run.proofs.report.write_schedule.Given as goal
 

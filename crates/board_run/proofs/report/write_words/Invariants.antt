@@ -1,6 +1,6 @@
 use Rattle.std.proofs.Common.{◌≡◌, ◌+◌, ◌*◌, [], drop}
 use Rattle.ras_text.specs.Lines.{text_of, sink_of, SameSink}
-use Rattle.board_plan.specs.Text.{bytes_of, word_lines}
+use Rattle.first_form.specs.Text.{bytes_of, word_lines}
 use Rattle.board_run.proofs.Progress.{Progress}
 use Rattle.board_run.proofs.report.write_words.Given as goal
 

@@ -1,8 +1,8 @@
 -- An op added behind others.
 use Rattle.std.proofs.Common.{◌≡◌, ℕ, ◌==◌, Bool, true, false, cond, List, [], ◌∷◌, ◌++◌, Some, None, refl, arith}
 use Rattle.std.proofs.lemmas.Bool.Decides.{nat_tests}
-use Rattle.board_plan.specs.declared.ops.Placed.{Placed}
-use Rattle.board_plan.specs.Ops.{op_at}
+use Rattle.first_form.specs.declared.ops.Placed.{Placed}
+use Rattle.first_form.specs.Ops.{op_at}
 
 passed : (b c : Bool) (x : Placed) (ps : List Placed) (p : Placed) (q : ℕ) → (x.pc == q) ≡ b → (x.pc == p.pc) ≡ c →
     (op_at p.pc ps ≡ None → op_at q (ps ++ p ∷ []) ≡ cond (p.pc == q) (Some p.op) (op_at q ps)) →

@@ -12,12 +12,12 @@ use Rattle.sse_base.specs.Ids.{id_of}
 use Rattle.sse_base.specs.Events.{slots}
 use Rattle.sse_base.specs.Contexts.{Context, Frame, Triple, Stack, below, top_triple, bit, privilege_bit, flags_of}
 use Rattle.sse_base.specs.Calls.{state_number}
-use Rattle.board_plan.specs.declared.notes.Step.{Step}
-use Rattle.board_plan.specs.declared.notes.Step.TheVariants.{Hart}
-use Rattle.board_plan.specs.declared.notes.Counts.{Counts}
-use Rattle.board_plan.specs.declared.plan.Plan.{Plan}
-use Rattle.board_plan.specs.Step.{BoardState, start_state}
-use Rattle.board_plan.specs.Run.{run, steps_made}
+use Rattle.first_form.specs.declared.notes.Step.{Step}
+use Rattle.first_form.specs.declared.notes.Step.TheVariants.{Hart}
+use Rattle.first_form.specs.declared.notes.Counts.{Counts}
+use Rattle.first_form.specs.declared.plan.Plan.{Plan}
+use Rattle.first_form.specs.Step.{BoardState, start_state}
+use Rattle.first_form.specs.Run.{run, steps_made}
 
 -- a value behind its name: ` NAME VALUE`
 unfoldable pub field : List ℕ → List ℕ → List ℕ

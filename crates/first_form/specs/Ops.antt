@@ -1,7 +1,7 @@
 -- The op at an address. This project's own.
 use Rattle.std.specs.Prelude.{ℕ, ◌==◌, Bool, if◌then◌else◌, List, [], ◌∷◌, Option, Some, None, is_some}
-use Rattle.board_plan.specs.declared.ops.Op.{Op}
-use Rattle.board_plan.specs.declared.ops.Placed.{Placed}
+use Rattle.first_form.specs.declared.ops.Op.{Op}
+use Rattle.first_form.specs.declared.ops.Placed.{Placed}
 
 abbrev pub op_at : ℕ → List Placed → Option Op
 op_at pc [] = None

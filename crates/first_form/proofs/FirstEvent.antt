@@ -13,16 +13,16 @@ use Rattle.sse_base.specs.Choice.{is_more_urgent, target, waits_for, chosen}
 use Rattle.sse_base.specs.Calls.{is_reserved}
 use Rattle.std.specs.Fmt.{digits}
 use Rattle.ras_text.specs.Numbers.{value_in, number, hexadecimal}
-use Rattle.board_plan.specs.declared.notes.StepNote.{StepNote}
-use Rattle.board_plan.specs.declared.notes.StepNote.TheVariants.{Deliver, Call, Inc}
-use Rattle.board_plan.specs.declared.ops.Op.{Op}
-use Rattle.board_plan.specs.declared.ops.Op.TheVariants as ops
-use Rattle.board_plan.specs.declared.ops.Placed.{Placed}
-use Rattle.board_plan.specs.declared.plan.Plan.{Plan}
-use Rattle.board_plan.specs.FirstForm.{placed, is_address, at_line, inc_line, argument_at, arguments, sbi_line, op_line, middle_line, first_plan, start_of_words, start_line, following, from_pieces, first_form}
-use Rattle.board_plan.specs.Step.{BoardState, step, start_state}
-use Rattle.board_plan.specs.Run.{run, notes, steps_made, rounds}
-use Rattle.board_plan.specs.Text.{field, head_line, context_text, counts_text, hart_line, event_line, word_line, schedule_line, entries_of_line, full}
+use Rattle.first_form.specs.declared.notes.StepNote.{StepNote}
+use Rattle.first_form.specs.declared.notes.StepNote.TheVariants.{Deliver, Call, Inc}
+use Rattle.first_form.specs.declared.ops.Op.{Op}
+use Rattle.first_form.specs.declared.ops.Op.TheVariants as ops
+use Rattle.first_form.specs.declared.ops.Placed.{Placed}
+use Rattle.first_form.specs.declared.plan.Plan.{Plan}
+use Rattle.first_form.specs.FirstForm.{placed, is_address, at_line, inc_line, argument_at, arguments, sbi_line, op_line, middle_line, first_plan, start_of_words, start_line, following, from_pieces, first_form}
+use Rattle.first_form.specs.Step.{BoardState, step, start_state}
+use Rattle.first_form.specs.Run.{run, notes, steps_made, rounds}
+use Rattle.first_form.specs.Text.{field, head_line, context_text, counts_text, hart_line, event_line, word_line, schedule_line, entries_of_line, full}
 
 abbrev pub script : List ℕ
 script =

@@ -1,6 +1,6 @@
 -- What a plan says of a hart. This project's own.
 use Rattle.std.specs.Prelude.{ℕ, ◌==◌, if◌then◌else◌, List, [], ◌∷◌}
-use Rattle.board_plan.specs.declared.plan.Start.{Start}
+use Rattle.first_form.specs.declared.plan.Start.{Start}
 
 -- where a hart begins: at 0 where no start names it
 abbrev pub start_of : ℕ → List Start → ℕ

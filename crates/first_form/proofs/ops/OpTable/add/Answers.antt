@@ -2,9 +2,9 @@ use Rattle.std.proofs.Common.{◌==◌, ap, sym, ◌∙◌, cond, Some}
 use Rattle.std.specs.Cmp.{unsigned_tied}
 use Rattle.std.specs.Ordering.{nat_cmp}
 use Rattle.std.specs.BTreeMap.{get}
-use Rattle.board_plan.specs.Ops.{op_at}
-use Rattle.board_plan.proofs.OpTables.{op_at-added}
-use Rattle.board_plan.proofs.ops.OpTable.add.Goals as goal
+use Rattle.first_form.specs.Ops.{op_at}
+use Rattle.first_form.proofs.OpTables.{op_at-added}
+use Rattle.first_form.proofs.ops.OpTable.add.Goals as goal
 
 pub invariant_of-self-in-Ok : goal.invariant_of-self-in-Ok
 invariant_of-self-in-Ok c = λ pc.

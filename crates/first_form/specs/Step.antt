@@ -14,18 +14,18 @@ use Rattle.sse_base.specs.Words.{word_index, load, fresh_memory}
 use Rattle.sse_base.specs.Machine.{Machine, Reach, reach, placed}
 use Rattle.sse_base.specs.Choice.{next_for}
 use Rattle.sse_base.specs.Calls.{Answer, call, delivered, with_memory}
-use Rattle.board_plan.specs.declared.notes.Step.{Step}
-use Rattle.board_plan.specs.declared.notes.Step.TheVariants.{Hart}
-use Rattle.board_plan.specs.declared.notes.StepNote.{StepNote}
-use Rattle.board_plan.specs.declared.notes.StepNote.TheVariants.{Deliver, Call, Inc, Illegal, Fault}
-use Rattle.board_plan.specs.declared.notes.Counts.{Counts}
-use Rattle.board_plan.specs.declared.ops.Op.{Op}
-use Rattle.board_plan.specs.declared.ops.Op.TheVariants as ops
-use Rattle.board_plan.specs.declared.ops.Placed.{Placed}
-use Rattle.board_plan.specs.declared.plan.Plan.{Plan}
-use Rattle.board_plan.specs.declared.plan.Start.{Start}
-use Rattle.board_plan.specs.Ops.{op_at}
-use Rattle.board_plan.specs.Plans.{start_of, budget_of}
+use Rattle.first_form.specs.declared.notes.Step.{Step}
+use Rattle.first_form.specs.declared.notes.Step.TheVariants.{Hart}
+use Rattle.first_form.specs.declared.notes.StepNote.{StepNote}
+use Rattle.first_form.specs.declared.notes.StepNote.TheVariants.{Deliver, Call, Inc, Illegal, Fault}
+use Rattle.first_form.specs.declared.notes.Counts.{Counts}
+use Rattle.first_form.specs.declared.ops.Op.{Op}
+use Rattle.first_form.specs.declared.ops.Op.TheVariants as ops
+use Rattle.first_form.specs.declared.ops.Placed.{Placed}
+use Rattle.first_form.specs.declared.plan.Plan.{Plan}
+use Rattle.first_form.specs.declared.plan.Start.{Start}
+use Rattle.first_form.specs.Ops.{op_at}
+use Rattle.first_form.specs.Plans.{start_of, budget_of}
 
 -- the whole board: the firmware's machine, what is counted of each hart, and how many steps were made
 pub record BoardState : Type 0 where

@@ -1,9 +1,9 @@
 -- Runs and notes over lists of tries that follow one another.
 use Rattle.std.proofs.Common.{◌≡◌, List, [], ◌∷◌, ◌++◌, Option, Some, None, refl, ap, ◌∙◌}
-use Rattle.board_plan.specs.declared.notes.Step.{Step}
-use Rattle.board_plan.specs.declared.plan.Plan.{Plan}
-use Rattle.board_plan.specs.Step.{BoardState, Stepped, step}
-use Rattle.board_plan.specs.Run.{Noted, state_after, noted, run, notes}
+use Rattle.first_form.specs.declared.notes.Step.{Step}
+use Rattle.first_form.specs.declared.plan.Plan.{Plan}
+use Rattle.first_form.specs.Step.{BoardState, Stepped, step}
+use Rattle.first_form.specs.Run.{Noted, state_after, noted, run, notes}
 
 pub run-append : (plan : Plan) (s : BoardState) (ts us : List Step) → run plan s (ts ++ us) ≡ run plan (run plan s ts) us
 run-append plan s [] us = refl

@@ -1,11 +1,11 @@
 -- Runs over a list of tries, and the rounds of a plan. This project's own.
 use Rattle.std.specs.Prelude.{◌≡◌, ℕ, zero, suc, ◌<◌, List, [], ◌∷◌, ◌++◌, map, length, Option, Some, None}
 use Rattle.std.specs.List.{range_with_len}
-use Rattle.board_plan.specs.declared.notes.Step.{Step}
-use Rattle.board_plan.specs.declared.notes.Step.TheVariants.{Hart}
-use Rattle.board_plan.specs.declared.notes.StepNote.{StepNote}
-use Rattle.board_plan.specs.declared.plan.Plan.{Plan}
-use Rattle.board_plan.specs.Step.{BoardState, Stepped, step, start_state}
+use Rattle.first_form.specs.declared.notes.Step.{Step}
+use Rattle.first_form.specs.declared.notes.Step.TheVariants.{Hart}
+use Rattle.first_form.specs.declared.notes.StepNote.{StepNote}
+use Rattle.first_form.specs.declared.plan.Plan.{Plan}
+use Rattle.first_form.specs.Step.{BoardState, Stepped, step, start_state}
 
 -- a step that was made: who made it, and its note
 pub record Noted : Type 0 where

@@ -5,11 +5,11 @@
 use Rattle.std.specs.Prelude.{◌≡◌, ℕ, ◌+◌, ◌%◌, ◌==◌, ◌&&◌, not, nat_lt, nat_le, Bool, true, false, if◌then◌else◌, List, [], ◌∷◌, ◌++◌, length, slice_get, Option, Some, None, option_and_then, codes, bytes_eq}
 use Rattle.std.specs.List.{slice_split}
 use Rattle.sse_base.specs.declared.events.EventDecl.{EventDecl}
-use Rattle.board_plan.specs.declared.ops.Op.{Op}
-use Rattle.board_plan.specs.declared.ops.Op.TheVariants.{Sbi, Inc}
-use Rattle.board_plan.specs.declared.ops.Placed.{Placed}
-use Rattle.board_plan.specs.declared.plan.Plan.{Plan}
-use Rattle.board_plan.specs.Ops.{has_op}
+use Rattle.first_form.specs.declared.ops.Op.{Op}
+use Rattle.first_form.specs.declared.ops.Op.TheVariants.{Sbi, Inc}
+use Rattle.first_form.specs.declared.ops.Placed.{Placed}
+use Rattle.first_form.specs.declared.plan.Plan.{Plan}
+use Rattle.first_form.specs.Ops.{has_op}
 use Rattle.ras_text.specs.Numbers.{number}
 
 infixl 10 ◌>>=◌
