@@ -1,6 +1,6 @@
 -- The rounds of a board of one hart.
 use Rattle.std.proofs.Common.{◌≡◌, ℕ, suc, ◌<◌, ◌≤◌, List, [], ◌∷◌, ◌++◌, map, length, Option, Some, None, refl, sym, ap, ◌∙◌, arith, ◌+◌, true, false, length-append, append-nil, below_more, subst, is_some, IfSome, IfNone}
-use Rattle.sbi_sse.specs.Start.{start_machine}
+use Rattle.sse_base.specs.Start.{start_machine}
 use Rattle.first_form.specs.declared.notes.Step.{Step}
 use Rattle.first_form.specs.declared.notes.Step.TheVariants.{Hart}
 use Rattle.first_form.specs.declared.notes.StepNote.{StepNote}

@@ -5,7 +5,7 @@ ghost use Rattle.sse_base.specs.Machine.{reach, placed};
 ghost use Rattle.sse_base.specs.Codes.{is_success};
 ghost use Rattle.sse_base.specs.Contexts.{fresh_stack};
 ghost use Rattle.sse_base.specs.Words.{load};
-ghost use Rattle.sbi_sse.specs.Start.{start_machine};
+ghost use Rattle.sse_base.specs.Start.{start_machine};
 ghost use Rattle.first_form.specs.FirstForm.{software_event};
 ghost use Rattle.first_form.specs.Step.{
   past,

@@ -53,7 +53,7 @@ called eid fid args a = record { reach = a.reach; note = Call eid fid args a.cod
 abbrev pub sbi : ℕ → ℕ → ℕ → List ℕ → List Stack → Reach → Made
 sbi h eid fid args stacks r =
     if is_user r.stack.live.privilege then record { reach = past r; note = Illegal }
-    else called eid fid args (call h eid fid args (slice_set stacks h (past r).stack) (past r))
+    else called eid fid args (call h eid fid args stacks (past r))
 
 -- a word rises by one
 abbrev pub risen : ℕ → Option ℕ → Reach → Made

@@ -15,7 +15,7 @@ use Rattle.sse_base.specs.Ids.{same_instance, place, id_of, is_global, on_harts,
 use Rattle.sse_base.specs.Events.{fresh_event, fresh_events, is_running, start_events}
 use Rattle.sse_base.specs.Contexts.{Stack, bit, fresh_stack}
 use Rattle.sse_table.proofs.Orders.{order_length, as_many_events}
-use Rattle.sbi_sse.specs.Start.{has_id, are_distinct}
+use Rattle.sse_base.specs.Start.{has_id, are_distinct}
 use Rattle.sbi_sse.specs.Kept.{times, ats, running, may_run_on, IsBoard, IsKept}
 use Rattle.sbi_sse.proofs.Counting.{times_append, placed_stands, standing_placed}
 

@@ -1,15 +1,17 @@
 -- What each change of the firmware keeps.
 use Rattle.std.proofs.Common.{◌≡◌, ℕ, zero, suc, ◌+◌, ◌<◌, ◌≤◌, Bool, true, false, List, [], ◌∷◌, length, get_or, set, refl, ap, sym, ◌∙◌, arith, inl, inr, subst}
-use Rattle.std.specs.Prelude.{filter, if◌then◌else◌, Some}
+use Rattle.std.specs.Prelude.{filter, if◌then◌else◌, Some, unwrap_or}
 use Rattle.std.proofs.lemmas.Bool.{cases_Bool, cases_lt}
 use Rattle.std.proofs.lemmas.List.{length-set, get_or-set_same, get_or-set_other, get_or_past}
 use Rattle.std.proofs.lemmas.Bool.Decides.{eqb_tells}
 use Rattle.sse_base.specs.declared.arrows.State.{State}
 use Rattle.sse_base.specs.declared.arrows.State.TheVariants.{Unused, Registered, Enabled, Running}
+use Rattle.sse_base.specs.declared.arrows.Move.TheVariants.{Deliver, Complete, CompleteOnce}
+use Rattle.sse_base.specs.Arrows.{arrow}
 use Rattle.sse_base.specs.declared.ids.Instance.{Instance}
 use Rattle.sse_base.specs.declared.events.Event.{Event}
 use Rattle.sse_base.specs.Ids.{same_instance, place}
-use Rattle.sse_base.specs.Events.{Events, event, change, mark, fresh_event, is_running, is_enabled, IsOnBoard, set_running, set_completed}
+use Rattle.sse_base.specs.Events.{Events, event, change, mark, fresh_event, is_running, is_enabled, IsOnBoard, gone, completion_of, set_running, set_completed}
 use Rattle.sse_base.specs.Contexts.{Context, Triple, Frame, Stack, Under, bit, newest, deliver, complete, below, with_below, on_top, changed_below, changed_own}
 use Rattle.sse_base.specs.Calls.{with_attributes, with_interrupted, with_interrupted_words, with_interrupted_triple}
 use Rattle.hart_ctx.specs.declared.regs.Regs.{Regs}
@@ -98,6 +100,12 @@ frames_keep t ms ss h d s k l e =
     }
 
 -- a delivery
+enabled_runs : (s : State) → is_enabled s ≡ true → is_running (unwrap_or (arrow s Deliver) s) ≡ true
+enabled_runs Unused e = cc
+enabled_runs Registered e = cc
+enabled_runs Enabled e = refl
+enabled_runs Running e = refl
+
 enabled_rests : (s : State) → is_enabled s ≡ true → is_running s ≡ false
 enabled_rests Unused e = refl
 enabled_rests Registered e = refl
@@ -113,13 +121,13 @@ delivered_runs t ms ss h d s at x k l on en e =
     in elim (cases_Bool (same_instance at x)) [
       | inl y ↦
           let z : at ≡ x = same_is at x y
-          in let f : event at (set_running at t) ≡ record (event at t) { state = Running } = own_event at (record (event at t) { state = Running }) t k.each on
+          in let f : event at (set_running at t) ≡ gone Deliver (event at t) = own_event at (gone Deliver (event at t)) t k.each on
           in let g : is_running (event x (set_running at t)).state ≡ true =
-          ap (λ (w : Instance). is_running (event w (set_running at t)).state) (sym z) ∙ ap (λ (v : Event). is_running v.state) f
+          ap (λ (w : Instance). is_running (event w (set_running at t)).state) (sym z) ∙ ap (λ (v : Event). is_running v.state) f ∙ enabled_runs (event at t).state en
           in let i : is_running (event x t).state ≡ false = ap (λ (w : Instance). is_running (event w t).state) (sym z) ∙ enabled_rests (event at t).state en
           in q ∙ rw (g, i, y) refl
       | inr y ↦
-          let f : event x (set_running at t) ≡ event x t = other_event x at (record (event at t) { state = Running }) t on y
+          let f : event x (set_running at t) ≡ event x t = other_event x at (gone Deliver (event at t)) t on y
           in q ∙ rw (f, y) (omega arith)
     ]
 
@@ -129,7 +137,7 @@ pub delivery_keeps : (t : Events) (ms : List Bool) (ss : List Stack) (h : ℕ) (
 delivery_keeps t ms ss h d s at k l on may en e =
     record {
       board = k.board;
-      each = length-set t.each (place at t.instances) (record (event at t) { state = Running }) ∙ k.each;
+      each = length-set t.each (place at t.instances) (gone Deliver (event at t)) ∙ k.each;
       masked = k.masked;
       harts = length-set ss h s ∙ k.harts;
       framed = λ x. delivered_runs t ms ss h d s at x k l on en e;
@@ -156,9 +164,13 @@ newest_runs t ms ss h d at xs k l e =
           in absurd (omega (arith, k.framed at, part_of_running at ss h d l))
     ]
 
-completed_rests : (b : Bool) → is_running (if b then Registered else Enabled) ≡ false
-completed_rests true = refl
-completed_rests false = refl
+completed_rests : (b : Bool) (s : State) → is_running s ≡ true →
+    is_running (unwrap_or (arrow s (if b then CompleteOnce else Complete)) s) ≡ false
+completed_rests b Unused e = cc
+completed_rests b Registered e = cc
+completed_rests b Enabled e = cc
+completed_rests true Running e = refl
+completed_rests false Running e = refl
 
 completed_runs : (t : Events) (ms : List Bool) (ss : List Stack) (h : ℕ) (d s : Stack) (at x : Instance) → IsKept t ms ss → h < length ss →
     ats (get_or ss h d).frames ≡ at ∷ ats s.frames →
@@ -168,13 +180,13 @@ completed_runs t ms ss h d s at x k l e =
     in let q : times x (running (set ss h s)) + bit (same_instance at x) ≡ bit (is_running (event x t).state) = omega (arith, exchange x ss h d s l, k.framed x)
     in let run : is_running (event at t).state ≡ true = newest_runs t ms ss h d at (ats s.frames) k l e
     in let on : IsOnBoard at t = runs_on_board at t k.each run
-    in let new : Event = record (event at t) { state = if (event at t).oneshot then Registered else Enabled }
+    in let new : Event = gone (completion_of (event at t)) (event at t)
     in elim (cases_Bool (same_instance at x)) [
       | inl y ↦
           let z : at ≡ x = same_is at x y
           in let f : event at (set_completed at t) ≡ new = own_event at new t k.each on
           in let g : is_running (event x (set_completed at t)).state ≡ false =
-          ap (λ (w : Instance). is_running (event w (set_completed at t)).state) (sym z) ∙ ap (λ (v : Event). is_running v.state) f ∙ completed_rests (event at t).oneshot
+          ap (λ (w : Instance). is_running (event w (set_completed at t)).state) (sym z) ∙ ap (λ (v : Event). is_running v.state) f ∙ completed_rests (event at t).oneshot (event at t).state run
           in let i : is_running (event x t).state ≡ true = ap (λ (w : Instance). is_running (event w t).state) (sym z) ∙ run
           in let j : bit (is_running (event x t).state) ≡ 1 = rw i refl
           in let m : bit (same_instance at x) ≡ 1 = rw y refl
@@ -192,7 +204,7 @@ pub completion_keeps : (t : Events) (ms : List Bool) (ss : List Stack) (h : ℕ)
 completion_keeps t ms ss h d s at k l e =
     record {
       board = k.board;
-      each = length-set t.each (place at t.instances) (record (event at t) { state = if (event at t).oneshot then Registered else Enabled }) ∙ k.each;
+      each = length-set t.each (place at t.instances) (gone (completion_of (event at t)) (event at t)) ∙ k.each;
       masked = k.masked;
       harts = length-set ss h s ∙ k.harts;
       framed = λ x. completed_runs t ms ss h d s at x k l e;

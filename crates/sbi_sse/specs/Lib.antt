@@ -1,5 +1,4 @@
--- The machine at its start, what the firmware keeps at all times, and what becomes of it while its memory is lent.
-pub mod Start
+-- What the firmware keeps at all times, what its calls answer, and what becomes of it while its memory is lent.
 pub mod Kept
 pub mod Elsewhere
 pub mod Answered

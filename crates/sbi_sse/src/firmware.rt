@@ -14,12 +14,12 @@ ghost use Rattle.hart_ctx.specs.Registers.{regs_of, with_regs};
 ghost use Rattle.hart_ctx.specs.Running.{running_in};
 ghost use Rattle.std.specs.Borrow.{sem};
 ghost use Rattle.sbi_sse.specs.Lending.{LendsMemory};
-ghost use Rattle.sbi_sse.specs.Start.{are_distinct, start_machine};
+ghost use Rattle.sse_base.specs.Start.{are_distinct, start_machine};
 
 use crate::parts::{CallNote, note, stacks};
 use hart_ctx::{Contexts, Memory, Regs, Saved};
 use ras_io::NoMemory;
-use sse_base::{EventDecl, EventId, Instance, SbiCode};
+use sse_base::{EventDecl, EventId, Function, Instance, SbiCode};
 use sse_table::Table;
 use sse_target::Targets;
 use std::alloc::Global;
@@ -183,7 +183,6 @@ impl Firmware {
     /// Delivers the event that is next on a hart: the most urgent one that waits for it, where that is
     /// strictly more urgent than what runs. None exactly where there is none; then nothing changes (SBI 3.0,
     /// "Supervisor Software Events", event priority, software event delivery).
-    #[tactic(auto, unfolding(sse_base::specs::Calls::attribute))]
     pub fn deliver(&mut self, hart: u8) -> Option<Instance>
         requires { hart < self.old.events.harts }
         ensures which { result ≡ next_for hart (reach hart self.old) }
@@ -196,8 +195,8 @@ impl Firmware {
             Some(at) => at,
             None => return None,
         };
-        let entry = self.table.get_attr(at, 4);
-        let arg = self.table.get_attr(at, 5);
+        let entry = self.table.entry(at);
+        let arg = self.table.arg(at);
         self.table.set_running(at);
         let stack = &mut self.stacks[hart as usize];
         stack.deliver(at, entry, arg, hart);
@@ -221,18 +220,18 @@ impl Firmware {
         if eid != EXTENSION {
             return note(SbiCode::NotSupported);
         }
-        match fid {
-            0 => self.read_attrs(hart, args),
-            1 => self.write_attrs(hart, args),
-            2 => self.register(hart, args),
-            3 => self.unregister(hart, args),
-            4 => self.enable(hart, args),
-            5 => self.disable(hart, args),
-            6 => self.complete(hart),
-            7 => self.inject(hart, args),
-            8 => self.unmask(hart),
-            9 => self.mask(hart),
-            _ => note(SbiCode::NotSupported),
+        match Function::from_number(fid) {
+            Some(Function::ReadAttrs) => self.read_attrs(hart, args),
+            Some(Function::WriteAttrs) => self.write_attrs(hart, args),
+            Some(Function::Register) => self.register(hart, args),
+            Some(Function::Unregister) => self.unregister(hart, args),
+            Some(Function::Enable) => self.enable(hart, args),
+            Some(Function::Disable) => self.disable(hart, args),
+            Some(Function::Complete) => self.complete(hart),
+            Some(Function::Inject) => self.inject(hart, args),
+            Some(Function::HartUnmask) => self.unmask(hart),
+            Some(Function::HartMask) => self.mask(hart),
+            None => note(SbiCode::NotSupported),
         }
     }
 

@@ -1,12 +1,13 @@
 //! Answers, and the stacks of all harts.
 
-ghost use Rattle.std.specs.Prelude.{◌≡◌, ◌≤◌, map, IfOk};
+ghost use Rattle.std.specs.Prelude.{◌≡◌, ◌≤◌, ◌+◌, map, IfOk, true};
 ghost use Rattle.sse_base.specs.Contexts.{fresh_stack};
-ghost use Rattle.sse_base.specs.Calls.{no_words, interrupted_on};
+ghost use Rattle.sse_base.specs.Calls.{no_words, interrupted_on, find_range, argument_at};
+ghost use Rattle.sse_base.specs.Words.{are_words};
 ghost use Rattle.sbi_sse.specs.Elsewhere.{elsewhere};
 
-use hart_ctx::Contexts;
-use sse_base::{Instance, Reply, SbiCode};
+use hart_ctx::{Contexts, Memory};
+use sse_base::{AttrRange, Instance, RangeFault, Reply, SbiCode, attr_range};
 use std::alloc::{AllocError, Global};
 
 /// What a call answered.
@@ -37,6 +38,25 @@ pub fn stacks(alloc: Global, starts: &[u64]) -> Result<Vec<Contexts>, AllocError
     ensures { IfOk result (λ v. v.items ≡ map fresh_stack starts.now) }
 {
     starts.iter().map(|pc| Contexts::new(*pc)).collect(alloc)
+}
+
+/// The range of attributes that a read or a write names in its arguments. An empty one is an invalid
+/// parameter, and one past the last attribute a bad range; where it has no words in memory the address is
+/// invalid (the order is this project's own).
+pub fn find_range(args: [u64; 5]) -> Result<AttrRange, SbiCode>
+    ensures range { result ≡ find_range (argument_at args 1) (argument_at args 2) (argument_at args 3) (argument_at args 4) }
+    ensures short { IfOk result (λ r. r.base + r.count ≤ 10) }
+    ensures words { IfOk result (λ r. are_words (argument_at args 3) r.count ≡ true) }
+{
+    let range = match attr_range(args[1], args[2]) {
+        Ok(range) => range,
+        Err(RangeFault::Zero) => return Err(SbiCode::InvalidParam),
+        Err(RangeFault::Reserved) => return Err(SbiCode::BadRange),
+    };
+    if args[4] != 0 || !Memory::are_words(args[3], args[2]) {
+        return Err(SbiCode::InvalidAddress);
+    }
+    Ok(range)
 }
 
 /// An INTERRUPTED attribute of an event: of its handler's frame, on whichever hart that runs, and 0 where

@@ -9,7 +9,11 @@ use Rattle.sse_base.specs.Contexts.{fresh_stack}
 use Rattle.sse_base.specs.Words.{fresh_memory, put_words}
 use Rattle.sse_base.specs.Machine.{Machine, reach, placed}
 use Rattle.sse_base.specs.Choice.{next_for}
-use Rattle.sse_base.specs.Calls.{Answer, call_on, delivered, extension}
+use Rattle.sse_base.specs.Calls.{Answer, call, delivered, extension}
+
+-- a call on the whole machine
+abbrev pub call_on : ℕ → ℕ → ℕ → List ℕ → Machine → Answer
+call_on h eid fid args m = call h eid fid args m.stacks (reach h m)
 
 -- a call: the hart that makes it, the function and the arguments
 pub record Asked : Type 0 where

@@ -5,8 +5,8 @@ use Rattle.sse_base.specs.declared.codes.SbiCode.TheVariants.{Success, NotSuppor
 use Rattle.sse_base.specs.Ids.{is_global, is_platform, class_of, same_instance}
 use Rattle.sse_base.specs.Events.{event}
 use Rattle.sse_base.specs.Machine.{Machine}
-use Rattle.sse_base.specs.Calls.{call_on, is_reserved, attribute, is_never_written, is_shut, is_refused_value, word_for}
-use Rattle.sse_base.proofs.Played.{Asked, ask, answer, after, codes, after_all, board, injectable, with_words, local_on}
+use Rattle.sse_base.specs.Calls.{is_reserved, attribute, is_never_written, is_shut, is_refused_value, word_for}
+use Rattle.sse_base.proofs.Played.{Asked, ask, call_on, answer, after, codes, after_all, board, injectable, with_words, local_on}
 
 -- the board of these examples, and its event
 abbrev injected : Machine

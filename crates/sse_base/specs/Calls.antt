@@ -1,10 +1,17 @@
 -- The ten calls of the extension.
--- SBI 3.0, "Supervisor Software Events", functions 0 to 9. The order in which the checks of a call are made, the code of
+-- SBI 3.0, "Supervisor Software Events", functions 0 to 9 of its extension. The order in which the checks of a call are made, the code of
 -- each refusal, when an attribute may be written, and that a completion with no handler succeeds and changes nothing,
 -- are this project's own rules. Each call below is its row of checks, from the first to the last, and then its effect.
-use Rattle.std.specs.Prelude.{ℕ, zero, suc, ◌+◌, ◌-◌, ◌*◌, ◌/◌, ◌%◌, ◌==◌, ◌&&◌, ◌||◌, not, nat_lt, nat_le, Bool, true, false, if◌then◌else◌, List, [], ◌∷◌, ◌++◌, length, replicate, slice_index, slice_set, Option, Some, None, unwrap_or, Result, Ok, Err}
+use Rattle.std.specs.Prelude.{ℕ, zero, suc, ◌+◌, ◌-◌, ◌*◌, ◌/◌, ◌%◌, ◌==◌, ◌&&◌, ◌||◌, not, nat_lt, nat_le, Bool, true, false, if◌then◌else◌, List, [], ◌∷◌, ◌++◌, length, replicate, slice_index, slice_set, Option, Some, None, option_map, unwrap_or, Result, Ok, Err}
 use Rattle.sse_base.specs.declared.arrows.State.{State}
 use Rattle.sse_base.specs.declared.arrows.State.TheVariants.{Unused, Registered, Enabled, Running}
+use Rattle.sse_base.specs.declared.arrows.Move.{Move}
+use Rattle.sse_base.specs.declared.arrows.Move.TheVariants.{Register, Unregister, Enable, Disable}
+use Rattle.sse_base.specs.declared.functions.Function.{Function}
+use Rattle.sse_base.specs.declared.functions.Function.TheVariants as functions
+use Rattle.sse_base.specs.declared.attributes.AttrRange.{AttrRange}
+use Rattle.sse_base.specs.declared.attributes.RangeFault.{RangeFault}
+use Rattle.sse_base.specs.declared.attributes.RangeFault.TheVariants as faults
 use Rattle.sse_base.specs.declared.codes.SbiCode.{SbiCode}
 use Rattle.sse_base.specs.declared.codes.SbiCode.TheVariants.{Success, NotSupported, InvalidParam, Denied, InvalidAddress, AlreadyStarted, AlreadyStopped, InvalidState, BadRange}
 use Rattle.sse_base.specs.declared.ids.EventClass.{EventClass}
@@ -12,9 +19,11 @@ use Rattle.sse_base.specs.declared.ids.EventClass.TheVariants.{Reserved}
 use Rattle.sse_base.specs.declared.ids.Instance.{Instance}
 use Rattle.sse_base.specs.declared.events.Event.{Event}
 use Rattle.sse_base.specs.Ids.{class_of, instance_of, is_local}
-use Rattle.sse_base.specs.Events.{Events, event, change, is_pending, is_on_board, is_unused, is_registered, is_enabled, signal, set_running, set_completed}
+use Rattle.sse_base.specs.Attributes.{STATUS, PRIORITY, CONFIG, PREFERRED_HART, ENTRY_PC, ENTRY_ARG, INTERRUPTED_SEPC, INTERRUPTED_FLAGS, INTERRUPTED_A6, INTERRUPTED_A7, range_of}
+use Rattle.sse_base.specs.Events.{Events, event, change, is_pending, is_on_board, is_unused, is_registered, moved, signal, set_running, set_completed}
 use Rattle.sse_base.specs.Contexts.{Context, Triple, Stack, deliver, complete, newest, has_frame, interrupted, bit, flags_of, privilege_at, change_below, change_own}
 use Rattle.sse_base.specs.Words.{are_words, words_at, put_words, word_index}
+use Rattle.sse_base.specs.Functions.{function_of}
 use Rattle.sse_base.specs.Machine.{Machine, Reach, reach}
 use Rattle.sse_base.specs.Choice.{is_masked}
 
@@ -47,8 +56,8 @@ accept r = record { code = Success; written = no_words; reach = r }
 abbrev pub with_events : Events → Reach → Reach
 with_events t r = record { stack = r.stack; events = t; masks = r.masks; memory = r.memory }
 
-abbrev pub with_mask : ℕ → Bool → Reach → Reach
-with_mask h masked r = record { stack = r.stack; events = r.events; masks = slice_set r.masks h masked; memory = r.memory }
+abbrev pub with_masks : List Bool → Reach → Reach
+with_masks masks r = record { stack = r.stack; events = r.events; masks = masks; memory = r.memory }
 
 abbrev pub with_memory : List ℕ → Reach → Reach
 with_memory words r = record { stack = r.stack; events = r.events; masks = r.masks; memory = words }
@@ -70,15 +79,15 @@ find_instance id hart t =
     if is_reserved id then Err InvalidParam
     else (if is_on_board (instance_of id hart) t then Ok (instance_of id hart) else Err NotSupported)
 
-abbrev pub found : Result Instance SbiCode → Reach → (Instance → Answer) → Answer
+-- what is asked for, or the code that says why there is none
+abbrev pub found : {A : Type 0} → Result A SbiCode → Reach → (A → Answer) → Answer
 found (Err code) r f = refuse code r
-found (Ok at) r f = f at
+found (Ok x) r f = f x
 
 abbrev pub on_instance : ℕ → ℕ → Reach → (Instance → Answer) → Answer
 on_instance id h r f = found (find_instance id h r.events) r f
 
--- The attributes: 0 STATUS, 1 PRIORITY, 2 CONFIG, 3 PREFERRED_HART, 4 ENTRY_PC, 5 ENTRY_ARG, 6 INTERRUPTED_SEPC,
--- 7 INTERRUPTED_FLAGS, 8 INTERRUPTED_A6, 9 INTERRUPTED_A7.
+-- The attributes, and what each reads.
 
 abbrev pub state_number : State → ℕ
 state_number Unused = 0
@@ -92,11 +101,11 @@ status_word at t = state_number (event at t).state + 4 * bit (is_pending at t) +
 
 unfoldable pub attribute : ℕ → Instance → Events → ℕ
 attribute attr at t =
-    if attr == 0 then status_word at t
-    else (if attr == 1 then (event at t).priority
-    else (if attr == 2 then bit (event at t).oneshot
-    else (if attr == 3 then (event at t).preferred
-    else (if attr == 4 then (event at t).entry
+    if attr == STATUS then status_word at t
+    else (if attr == PRIORITY then (event at t).priority
+    else (if attr == CONFIG then bit (event at t).oneshot
+    else (if attr == PREFERRED_HART then (event at t).preferred
+    else (if attr == ENTRY_PC then (event at t).entry
     else (event at t).arg))))
 
 -- an INTERRUPTED attribute reads the same whichever hart asks, and 0 where no handler of the instance runs
@@ -105,7 +114,7 @@ interrupted_on attr at [] = 0
 interrupted_on attr at (s ∷ ss) = unwrap_or (interrupted attr at s.frames s.base) (interrupted_on attr at ss)
 
 abbrev pub read : ℕ → Instance → List Stack → Events → ℕ
-read attr at stacks t = if nat_lt attr 6 then attribute attr at t else interrupted_on attr at stacks
+read attr at stacks t = if nat_lt attr INTERRUPTED_SEPC then attribute attr at t else interrupted_on attr at stacks
 
 -- so many attributes from one on
 abbrev pub reads : ℕ → ℕ → Instance → List Stack → Events → List ℕ
@@ -123,17 +132,20 @@ some_word test attr [] = false
 some_word test attr (v ∷ vs) = test attr v || some_word test (attr + 1) vs
 
 unfoldable pub is_never_written : Instance → ℕ → Bool
-is_never_written at attr = (attr == 0) || (attr == 4) || (attr == 5) || ((attr == 3) && is_local at)
+is_never_written at attr =
+    (attr == STATUS) || (attr == ENTRY_PC) || (attr == ENTRY_ARG) || ((attr == PREFERRED_HART) && is_local at)
 
--- 1 to 3 may be written while the event is unused or registered, 6 to 9 by the hart that runs its handler
+-- priority, oneshot mark and preferred hart may be written while the event is unused or registered, and the INTERRUPTED
+-- attributes by the hart that runs its handler
 unfoldable pub is_shut : State → Bool → ℕ → Bool
 is_shut state running_here attr =
-    (nat_le 1 attr && nat_le attr 3 && not (is_unused state || is_registered state)) || (nat_le 6 attr && not running_here)
+    (nat_le PRIORITY attr && nat_le attr PREFERRED_HART && not (is_unused state || is_registered state))
+    || (nat_le INTERRUPTED_SEPC attr && not running_here)
 
 unfoldable pub is_refused_value : ℕ → ℕ → ℕ → Bool
 is_refused_value harts attr value =
-    ((attr == 1) && nat_lt 0xffffffff value) || ((attr == 2) && nat_lt 1 value)
-    || ((attr == 3) && not (nat_lt value harts)) || ((attr == 7) && nat_lt 3 value)
+    ((attr == PRIORITY) && nat_lt 0xffffffff value) || ((attr == CONFIG) && nat_lt 1 value)
+    || ((attr == PREFERRED_HART) && not (nat_lt value harts)) || ((attr == INTERRUPTED_FLAGS) && nat_lt 3 value)
 
 abbrev pub check_write : ℕ → List ℕ → Instance → Bool → Events → SbiCode
 check_write base words at running_here t =
@@ -154,21 +166,22 @@ word_for attr base words old = if covers base (length words) attr then slice_ind
 abbrev pub with_attributes : ℕ → List ℕ → Event → Event
 with_attributes base words e =
     record e {
-      priority = word_for 1 base words e.priority;
-      oneshot = word_for 2 base words (bit e.oneshot) == 1;
-      preferred = word_for 3 base words e.preferred;
+      priority = word_for PRIORITY base words e.priority;
+      oneshot = word_for CONFIG base words (bit e.oneshot) == 1;
+      preferred = word_for PREFERRED_HART base words e.preferred;
     }
 
 abbrev pub with_interrupted_triple : ℕ → List ℕ → Triple → Triple
 with_interrupted_triple base words t =
     record {
-      sepc = word_for 6 base words t.sepc;
-      spp = privilege_at (word_for 7 base words (flags_of t) % 2 == 1);
-      spie = word_for 7 base words (flags_of t) / 2 % 2 == 1;
+      sepc = word_for INTERRUPTED_SEPC base words t.sepc;
+      spp = privilege_at (word_for INTERRUPTED_FLAGS base words (flags_of t) % 2 == 1);
+      spie = word_for INTERRUPTED_FLAGS base words (flags_of t) / 2 % 2 == 1;
     }
 
 abbrev pub with_interrupted_words : ℕ → List ℕ → Context → Context
-with_interrupted_words base words c = record c { a6 = word_for 8 base words c.a6; a7 = word_for 9 base words c.a7 }
+with_interrupted_words base words c =
+    record c { a6 = word_for INTERRUPTED_A6 base words c.a6; a7 = word_for INTERRUPTED_A7 base words c.a7 }
 
 abbrev pub with_interrupted : ℕ → List ℕ → Instance → Stack → Stack
 with_interrupted base words at s =
@@ -186,57 +199,69 @@ written_to base words at r =
 abbrev pub padded : List ℕ → List ℕ
 padded words = words ++ replicate (10 - length words) 0
 
--- The calls, by number.
+-- The calls.
 
--- 0: the attributes stand in memory
+-- The range of attributes that a read or a write names, with words in memory for it; or why it is refused.
+abbrev pub with_words_for : ℕ → ℕ → AttrRange → Result AttrRange SbiCode
+with_words_for lo hi range = if not (hi == 0) || not (are_words lo range.count) then Err InvalidAddress else Ok range
+
+abbrev pub in_memory : ℕ → ℕ → Result AttrRange RangeFault → Result AttrRange SbiCode
+in_memory lo hi (Err faults.Zero) = Err InvalidParam
+in_memory lo hi (Err faults.Reserved) = Err BadRange
+in_memory lo hi (Ok range) = with_words_for lo hi range
+
+abbrev pub find_range : ℕ → ℕ → ℕ → ℕ → Result AttrRange SbiCode
+find_range base count lo hi = in_memory lo hi (range_of base count)
+
+-- read attributes: they stand in memory
+abbrev pub read_range : ℕ → Instance → List Stack → Reach → AttrRange → Answer
+read_range lo at stacks r range =
+    accept (with_memory (put_words r.memory (word_index lo) (reads range.base range.count at stacks r.events)) r)
+
 abbrev pub read_attrs : ℕ → ℕ → ℕ → ℕ → Instance → List Stack → Reach → Answer
-read_attrs base count lo hi at stacks r =
-    if count == 0 then refuse InvalidParam r
-    else (if nat_lt 10 (base + count) then refuse BadRange r
-    else (if not (hi == 0) || not (are_words lo count) then refuse InvalidAddress r
-    else accept (with_memory (put_words r.memory (word_index lo) (reads base count at stacks r.events)) r)))
+read_attrs base count lo hi at stacks r = found (find_range base count lo hi) r (read_range lo at stacks r)
 
--- 1: the attributes take the words in memory, all of them or none
+-- write attributes: they take the words in memory, all of them or none
 abbrev pub write_checked : SbiCode → ℕ → List ℕ → Instance → Reach → Answer
-write_checked Success base words at r = record { code = Success; written = padded words; reach = written_to base words at r }
+write_checked Success base words at r =
+    record { code = Success; written = padded words; reach = written_to base words at r }
 write_checked code base words at r = refuse code r
 
 abbrev pub write_words : ℕ → List ℕ → Instance → Reach → Answer
-write_words base words at r = write_checked (check_write base words at (has_frame at r.stack.frames) r.events) base words at r
+write_words base words at r =
+    write_checked (check_write base words at (has_frame at r.stack.frames) r.events) base words at r
+
+abbrev pub write_range : ℕ → Instance → Reach → AttrRange → Answer
+write_range lo at r range = write_words range.base (words_at r.memory lo range.count) at r
 
 abbrev pub write_attrs : ℕ → ℕ → ℕ → ℕ → Instance → Reach → Answer
-write_attrs base count lo hi at r =
-    if count == 0 then refuse InvalidParam r
-    else (if nat_lt 10 (base + count) then refuse BadRange r
-    else (if not (hi == 0) || not (are_words lo count) then refuse InvalidAddress r
-    else write_words base (words_at r.memory lo count) at r))
+write_attrs base count lo hi at r = found (find_range base count lo hi) r (write_range lo at r)
 
--- 2: registered, with its entry and its argument
+-- A call that makes a move is refused where the event's state has no such arrow.
+abbrev pub take_next : Option Event → Instance → Events → Called
+take_next None at t = refused InvalidState t
+take_next (Some e) at t = accepted (change at e t)
+
+abbrev pub with_handler : ℕ → ℕ → Event → Event
+with_handler pc arg e = record e { entry = pc; arg = arg }
+
+-- register: with where its handler begins, and its argument
 abbrev pub register : ℕ → ℕ → Instance → Events → Called
 register pc arg at t =
     if pc % 2 == 1 then refused InvalidParam t
-    else (if not (is_unused (event at t).state) then refused InvalidState t
-    else accepted (change at (record (event at t) { state = Registered; entry = pc; arg = arg }) t))
+    else take_next (option_map (with_handler pc arg) (moved Register (event at t))) at t
 
--- 3: unused; entry and argument become 0, all else stays
+-- unregister: entry and argument become 0, all else stays
 abbrev pub unregister : Instance → Events → Called
-unregister at t =
-    if not (is_registered (event at t).state) then refused InvalidState t
-    else accepted (change at (record (event at t) { state = Unused; entry = 0; arg = 0 }) t)
+unregister at t = take_next (option_map (with_handler 0 0) (moved Unregister (event at t))) at t
 
--- 4
 abbrev pub enable : Instance → Events → Called
-enable at t =
-    if not (is_registered (event at t).state) then refused InvalidState t
-    else accepted (change at (record (event at t) { state = Enabled }) t)
+enable at t = take_next (moved Enable (event at t)) at t
 
--- 5
 abbrev pub disable : Instance → Events → Called
-disable at t =
-    if not (is_enabled (event at t).state) then refused InvalidState t
-    else accepted (change at (record (event at t) { state = Registered }) t)
+disable at t = take_next (moved Disable (event at t)) at t
 
--- 6: the newest handler of the hart is done
+-- complete: the newest handler of the hart is done
 abbrev pub completed_at : Option Instance → Reach → Reach
 completed_at None r = r
 completed_at (Some at) r = record { stack = complete r.stack; events = set_completed at r.events; masks = r.masks; memory = r.memory }
@@ -244,45 +269,62 @@ completed_at (Some at) r = record { stack = complete r.stack; events = set_compl
 abbrev pub complete_newest : Reach → Reach
 complete_newest r = completed_at (newest r.stack.frames) r
 
--- 7: the instance, on the hart that is named where it is local, is signalled
+-- inject: the instance, on the hart that is named where it is local, is signalled
 abbrev pub inject : ℕ → ℕ → Instance → Events → Called
 inject id hart at t =
     if not (event at t).inject then refused InvalidParam t
     else (if is_local at && not (nat_lt hart t.harts) then refused InvalidParam t
     else accepted (signal (instance_of id hart) t))
 
--- 8 and 9: the hart's own mask
-abbrev pub hart_unmask : ℕ → Reach → Answer
-hart_unmask h r = if not (is_masked h r.masks) then refuse AlreadyStarted r else accept (with_mask h false r)
+-- hart unmask and hart mask: the hart's own mask
+abbrev pub Masking : Type 0
+Masking = SbiCode × List Bool
 
-abbrev pub hart_mask : ℕ → Reach → Answer
-hart_mask h r = if is_masked h r.masks then refuse AlreadyStopped r else accept (with_mask h true r)
+abbrev pub unmask : ℕ → List Bool → Masking
+unmask h masks = if is_masked h masks then (Success, slice_set masks h false) else (AlreadyStarted, masks)
 
--- Any call of a hart: first the function, then the event of those that take one, then the call's own checks.
+abbrev pub mask : ℕ → List Bool → Masking
+mask h masks = if is_masked h masks then (AlreadyStopped, masks) else (Success, slice_set masks h true)
 
-abbrev pub argument : List ℕ → ℕ → ℕ
-argument args i = slice_index args i
+abbrev pub of_masks : Masking → Reach → Answer
+of_masks m r = record { code = m.0; written = no_words; reach = with_masks m.1 r }
 
-abbrev pub function : ℕ → ℕ → List ℕ → List Stack → Reach → Answer
-function h fid args stacks r =
-    if fid == 0 then on_instance (argument args 0) h r (λ at. read_attrs (argument args 1) (argument args 2) (argument args 3) (argument args 4) at stacks r)
-    else (if fid == 1 then on_instance (argument args 0) h r (λ at. write_attrs (argument args 1) (argument args 2) (argument args 3) (argument args 4) at r)
-    else (if fid == 2 then on_instance (argument args 0) h r (λ at. of_events (register (argument args 1) (argument args 2) at r.events) r)
-    else (if fid == 3 then on_instance (argument args 0) h r (λ at. of_events (unregister at r.events) r)
-    else (if fid == 4 then on_instance (argument args 0) h r (λ at. of_events (enable at r.events) r)
-    else (if fid == 5 then on_instance (argument args 0) h r (λ at. of_events (disable at r.events) r)
-    else (if fid == 6 then accept (complete_newest r)
-    else (if fid == 7 then on_instance (argument args 0) h r (λ at. of_events (inject (argument args 0) (argument args 1) at r.events) r)
-    else (if fid == 8 then hart_unmask h r
-    else (if fid == 9 then hart_mask h r
-    else refuse NotSupported r)))))))))
+-- Any call of a hart: first the function, then the event of those that take one, then the call's own checks. What the hart
+-- itself runs is in its reach, so of the harts' stacks only the others' are looked at.
+
+abbrev pub argument_at : List ℕ → ℕ → ℕ
+argument_at args i = slice_index args i
+
+abbrev pub function : ℕ → Function → List ℕ → List Stack → Reach → Answer
+function h functions.ReadAttrs args stacks r =
+    on_instance (argument_at args 0) h r (λ at.
+    read_attrs (argument_at args 1) (argument_at args 2) (argument_at args 3) (argument_at args 4) at (slice_set stacks h r.stack) r)
+function h functions.WriteAttrs args stacks r =
+    on_instance (argument_at args 0) h r (λ at.
+    write_attrs (argument_at args 1) (argument_at args 2) (argument_at args 3) (argument_at args 4) at r)
+function h functions.Register args stacks r =
+    on_instance (argument_at args 0) h r (λ at. of_events (register (argument_at args 1) (argument_at args 2) at r.events) r)
+function h functions.Unregister args stacks r =
+    on_instance (argument_at args 0) h r (λ at. of_events (unregister at r.events) r)
+function h functions.Enable args stacks r = on_instance (argument_at args 0) h r (λ at. of_events (enable at r.events) r)
+function h functions.Disable args stacks r = on_instance (argument_at args 0) h r (λ at. of_events (disable at r.events) r)
+function h functions.Complete args stacks r = accept (complete_newest r)
+function h functions.Inject args stacks r =
+    on_instance (argument_at args 0) h r (λ at. of_events (inject (argument_at args 0) (argument_at args 1) at r.events) r)
+function h functions.HartUnmask args stacks r = of_masks (unmask h r.masks) r
+function h functions.HartMask args stacks r = of_masks (mask h r.masks) r
+
+abbrev pub known : ℕ → Option Function → List ℕ → List Stack → Reach → Answer
+known h None args stacks r = refuse NotSupported r
+known h (Some f) args stacks r = function h f args stacks r
 
 -- the extension id of supervisor software events, "SSE"
 abbrev pub extension : ℕ
 extension = 0x535345
 
 abbrev pub call : ℕ → ℕ → ℕ → List ℕ → List Stack → Reach → Answer
-call h eid fid args stacks r = if not (eid == extension) then refuse NotSupported r else function h fid args stacks r
+call h eid fid args stacks r =
+    if not (eid == extension) then refuse NotSupported r else known h (function_of fid) args stacks r
 
 -- The one other change of a hart: a delivery.
 abbrev pub delivered : ℕ → Instance → Reach → Reach
@@ -293,7 +335,3 @@ delivered h at r =
       masks = r.masks;
       memory = r.memory;
     }
-
--- A call and a delivery on the whole machine.
-abbrev pub call_on : ℕ → ℕ → ℕ → List ℕ → Machine → Answer
-call_on h eid fid args m = call h eid fid args m.stacks (reach h m)

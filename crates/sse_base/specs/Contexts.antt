@@ -8,6 +8,7 @@ use Rattle.sse_base.specs.declared.contexts.Privilege.{Privilege}
 use Rattle.sse_base.specs.declared.contexts.Privilege.TheVariants.{User, Supervisor}
 use Rattle.sse_base.specs.declared.ids.Instance.{Instance}
 use Rattle.sse_base.specs.Ids.{same_instance}
+use Rattle.sse_base.specs.Attributes.{INTERRUPTED_SEPC, INTERRUPTED_FLAGS, INTERRUPTED_A6}
 
 -- what a hart runs
 pub record Context : Type 0 where
@@ -141,12 +142,13 @@ abbrev pub privilege_at : Bool → Privilege
 privilege_at false = User
 privilege_at true = Supervisor
 
-abbrev pub with_flags : ℕ → Triple → Triple
-with_flags flags t = record { sepc = t.sepc; spp = privilege_at (flags % 2 == 1); spie = flags / 2 % 2 == 1 }
-
 -- one of the four INTERRUPTED attributes: of a handler's own context, with the triple below its frame
 abbrev pub kept_by : ℕ → Context → Triple → ℕ
-kept_by attr own t = if attr == 6 then t.sepc else (if attr == 7 then flags_of t else (if attr == 8 then own.a6 else own.a7))
+kept_by attr own t =
+    if attr == INTERRUPTED_SEPC then t.sepc
+    else (if attr == INTERRUPTED_FLAGS then flags_of t
+    else (if attr == INTERRUPTED_A6 then own.a6
+    else own.a7))
 
 -- that attribute of an instance, where its handler runs on this hart
 abbrev pub interrupted : ℕ → Instance → List Frame → Triple → Option ℕ

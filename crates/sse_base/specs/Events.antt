@@ -1,10 +1,13 @@
 -- The events of a board: three lists side by side, in the order of the instances.
 -- SBI 3.0, "Supervisor Software Events", event states and attributes. What an unregister clears and keeps is this
 -- project's own rule.
-use Rattle.std.specs.Prelude.{ℕ, ◌<◌, Bool, true, false, nat_lt, if◌then◌else◌, List, [], ◌∷◌, map, length, slice_index_or, slice_set}
+use Rattle.std.specs.Prelude.{ℕ, ◌<◌, Bool, true, false, nat_lt, if◌then◌else◌, List, [], ◌∷◌, map, length, slice_index_or, slice_set, Option, option_map, unwrap_or}
 use Rattle.std.specs.List.{flat_map}
 use Rattle.sse_base.specs.declared.arrows.State.{State}
 use Rattle.sse_base.specs.declared.arrows.State.TheVariants.{Unused, Registered, Enabled, Running}
+use Rattle.sse_base.specs.declared.arrows.Move.{Move}
+use Rattle.sse_base.specs.declared.arrows.Move.TheVariants.{Deliver, Complete, CompleteOnce}
+use Rattle.sse_base.specs.Arrows.{arrow}
 use Rattle.sse_base.specs.declared.ids.Instance.{Instance}
 use Rattle.sse_base.specs.declared.ids.Instance.TheVariants.{Local, Global}
 use Rattle.sse_base.specs.declared.events.Event.{Event}
@@ -64,13 +67,27 @@ mark at pending t = record { harts = t.harts; instances = t.instances; each = t.
 abbrev pub signal : Instance → Events → Events
 signal at t = mark at true t
 
+-- an event after a move, where its state has such an arrow
+abbrev pub in_state : Event → State → Event
+in_state e state = record e { state = state }
+
+abbrev pub moved : Move → Event → Option Event
+moved mv e = option_map (in_state e) (arrow e.state mv)
+
+-- an event that goes along the arrow of a move, and stays as it is where its state has none
+abbrev pub gone : Move → Event → Event
+gone mv e = in_state e (unwrap_or (arrow e.state mv) e.state)
+
 -- a delivery: it runs, and is no longer pending
 abbrev pub set_running : Instance → Events → Events
-set_running at t = mark at false (change at (record (event at t) { state = Running }) t)
+set_running at t = mark at false (change at (gone Deliver (event at t)) t)
 
 -- a completion: it is enabled again, or registered where it is oneshot
+abbrev pub completion_of : Event → Move
+completion_of e = if e.oneshot then CompleteOnce else Complete
+
 abbrev pub set_completed : Instance → Events → Events
-set_completed at t = change at (record (event at t) { state = if (event at t).oneshot then Registered else Enabled }) t
+set_completed at t = change at (gone (completion_of (event at t)) (event at t)) t
 
 -- the events of a board at its start
 abbrev pub preferred_at_start : Instance → ℕ

@@ -2,6 +2,7 @@
 pub mod Ids
 pub mod Arrows
 pub mod Codes
+pub mod Functions
 pub mod Attributes
 pub mod Events
 pub mod Contexts
@@ -9,3 +10,4 @@ pub mod Words
 pub mod Machine
 pub mod Choice
 pub mod Calls
+pub mod Start

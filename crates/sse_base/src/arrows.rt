@@ -1,7 +1,8 @@
 //! The states of an event and the moves between them.
 
-ghost use Rattle.std.specs.Prelude.{◌≡◌};
+ghost use Rattle.std.specs.Prelude.{◌≡◌, ◌≤◌};
 ghost use Rattle.sse_base.specs.Arrows.{arrow};
+ghost use Rattle.sse_base.specs.Calls.{state_number};
 
 /// The state of an instance (SBI 3.0, "Supervisor Software Events", event states).
 #[derive(Clone, Copy, Debug, PartialEq, Eq)]
@@ -10,6 +11,21 @@ pub enum State {
     Registered,
     Enabled,
     Running,
+}
+
+impl State {
+    /// The state's number in the attribute STATUS.
+    pub fn number(self) -> u64
+        ensures number { result ≡ state_number self }
+        ensures small { result ≤ 3 }
+    {
+        match self {
+            State::Unused => 0,
+            State::Registered => 1,
+            State::Enabled => 2,
+            State::Running => 3,
+        }
+    }
 }
 
 /// What moves an instance from one state to another.

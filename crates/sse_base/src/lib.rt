@@ -7,11 +7,13 @@ mod attributes;
 mod codes;
 mod contexts;
 mod events;
+mod functions;
 mod ids;
 
 pub use arrows::{Move, State, next_state};
-pub use attributes::{AttrRange, RangeFault, attr_range, word_for};
+pub use attributes::{AttrRange, RangeFault, attr, attr_range, word_for};
 pub use codes::{Reply, SbiCode};
 pub use contexts::Privilege;
 pub use events::{Event, EventDecl, Slot};
+pub use functions::Function;
 pub use ids::{EventClass, EventId, Instance};

@@ -1,16 +1,18 @@
 //! The table.
 
-ghost use Rattle.std.specs.Prelude.{◌≡◌, ◌<◌, ◌≤◌, ◌+◌, length, slice_get, IfOk, Some, true, false, [], ◌∷◌};
+ghost use Rattle.std.specs.Prelude.{◌≡◌, ◌<◌, ◌≤◌, ◌+◌, length, slice_get, IfOk, Some, true, false, [], ◌∷◌, option_map, unwrap_or};
+ghost use Rattle.sse_base.specs.Arrows.{arrow};
 ghost use Rattle.sse_base.specs.Codes.{is_success};
-ghost use Rattle.sse_base.specs.Events.{IsOnBoard, change, event, start_events, slots, signal, set_running, set_completed, is_enabled, is_running};
-ghost use Rattle.sse_base.specs.Calls.{find_instance, register, unregister, enable, disable, attribute, check_write, state_number, some_word, is_refused_value, with_attributes};
+ghost use Rattle.sse_base.specs.Events.{IsOnBoard, change, event, moved, start_events, slots, signal, set_running, set_completed, is_enabled, is_running};
+ghost use Rattle.sse_base.specs.Calls.{find_instance, take_next, with_handler, register, unregister, enable, disable, attribute, check_write, some_word, is_refused_value, with_attributes};
 
 use crate::instances::{instance_of, place};
 use crate::start;
 use crate::writes::{some_never_written, some_refused_value, some_shut};
 use ras_io::NoMemory;
 use sse_base::{
-    AttrRange, Event, EventClass, EventDecl, EventId, Instance, SbiCode, Slot, State, word_for,
+    AttrRange, Event, EventClass, EventDecl, EventId, Instance, Move, SbiCode, Slot, State, attr,
+    next_state, word_for,
 };
 use std::alloc::{AllocError, Global};
 use std::marker::Model;
@@ -38,16 +40,22 @@ impl Model for Table {
         × (length t.instances.items ≤ 64) };
 }
 
-/// The number of a state in the attribute STATUS.
-fn number(state: State) -> u64
-    ensures { result ≡ state_number state }
+/// An event with where its handler begins and its argument.
+fn with_handler(event: Option<Event>, entry: u64, arg: u64) -> Option<Event>
+    ensures { result ≡ option_map (with_handler entry arg) event }
 {
-    match state {
-        State::Unused => 0,
-        State::Registered => 1,
-        State::Enabled => 2,
-        State::Running => 3,
-    }
+    event.map(|event| Event {
+        entry,
+        arg,
+        ..event
+    })
+}
+
+/// The state after a move, or the same where the state has no such arrow.
+fn gone(state: State, mv: Move) -> State
+    ensures { result ≡ unwrap_or (arrow state mv) state }
+{
+    next_state(state, mv).unwrap_or(state)
 }
 
 /// The table at the start of a board.
@@ -147,6 +155,33 @@ impl Table {
         }
     }
 
+    /// The event of an instance after a move, or None exactly where its state has no such arrow.
+    fn moved(&self, at: Instance, mv: Move) -> Option<Event>
+        requires { IsOnBoard at self.now }
+        ensures { result ≡ moved mv (event at self.now) }
+    {
+        let event = self.each[place(&self.instances, at)];
+        next_state(event.state, mv).map(|state| Event { state, ..event })
+    }
+
+    /// The event of an instance becomes the next one; where there is none it is in an invalid state, and
+    /// nothing changes.
+    fn take_next(&mut self, at: Instance, next: Option<Event>) -> SbiCode
+        requires { IsOnBoard at self.old }
+        ensures code { result ≡ (take_next next at self.old).code }
+        ensures next { self.new ≡ (take_next next at self.old).next }
+        ensures refused { is_success result ≡ false → self.new ≡ self.old }
+        ensures harts { self.new.harts ≡ self.old.harts }
+        ensures instances { self.new.instances ≡ self.old.instances }
+    {
+        let Some(event) = next else {
+            return SbiCode::InvalidState;
+        };
+        let i = place(&self.instances, at);
+        self.each[i] = event;
+        SbiCode::Success
+    }
+
     /// Registers an instance with where its handler begins and its argument. An odd place is an invalid
     /// parameter, and an instance that isn't unused is in an invalid state; then nothing changes.
     pub fn register(&mut self, at: Instance, pc: u64, arg: u64) -> SbiCode
@@ -157,18 +192,11 @@ impl Table {
         ensures harts { self.new.harts ≡ self.old.harts }
         ensures instances { self.new.instances ≡ self.old.instances }
     {
-        let i = place(&self.instances, at);
         if pc % 2 == 1 {
             return SbiCode::InvalidParam;
         }
-        if !matches!(self.each[i].state, State::Unused) {
-            return SbiCode::InvalidState;
-        }
-        let event = &mut self.each[i];
-        event.state = State::Registered;
-        event.entry = pc;
-        event.arg = arg;
-        SbiCode::Success
+        let next = with_handler(self.moved(at, Move::Register), pc, arg);
+        self.take_next(at, next)
     }
 
     /// Makes an instance unused; its entry and its argument become 0, and all else stays. An instance that
@@ -181,15 +209,8 @@ impl Table {
         ensures harts { self.new.harts ≡ self.old.harts }
         ensures instances { self.new.instances ≡ self.old.instances }
     {
-        let i = place(&self.instances, at);
-        if !matches!(self.each[i].state, State::Registered) {
-            return SbiCode::InvalidState;
-        }
-        let event = &mut self.each[i];
-        event.state = State::Unused;
-        event.entry = 0;
-        event.arg = 0;
-        SbiCode::Success
+        let next = with_handler(self.moved(at, Move::Unregister), 0, 0);
+        self.take_next(at, next)
     }
 
     /// Enables an instance. One that isn't registered is in an invalid state; then nothing changes.
@@ -201,12 +222,8 @@ impl Table {
         ensures harts { self.new.harts ≡ self.old.harts }
         ensures instances { self.new.instances ≡ self.old.instances }
     {
-        let i = place(&self.instances, at);
-        if !matches!(self.each[i].state, State::Registered) {
-            return SbiCode::InvalidState;
-        }
-        self.each[i].state = State::Enabled;
-        SbiCode::Success
+        let next = self.moved(at, Move::Enable);
+        self.take_next(at, next)
     }
 
     /// Disables an instance. One that isn't enabled is in an invalid state; then nothing changes.
@@ -218,12 +235,8 @@ impl Table {
         ensures harts { self.new.harts ≡ self.old.harts }
         ensures instances { self.new.instances ≡ self.old.instances }
     {
-        let i = place(&self.instances, at);
-        if !matches!(self.each[i].state, State::Enabled) {
-            return SbiCode::InvalidState;
-        }
-        self.each[i].state = State::Registered;
-        SbiCode::Success
+        let next = self.moved(at, Move::Disable);
+        self.take_next(at, next)
     }
 
     /// An instance that is delivered runs, and is no longer pending.
@@ -233,7 +246,7 @@ impl Table {
         ensures { self.new ≡ set_running at self.old }
     {
         let i = place(&self.instances, at);
-        self.each[i].state = State::Running;
+        self.each[i].state = gone(self.each[i].state, Move::Deliver);
         self.marks[i] = false;
     }
 
@@ -244,11 +257,12 @@ impl Table {
         ensures { self.new ≡ set_completed at self.old }
     {
         let i = place(&self.instances, at);
-        self.each[i].state = if self.each[i].oneshot {
-            State::Registered
+        let mv = if self.each[i].oneshot {
+            Move::CompleteOnce
         } else {
-            State::Enabled
+            Move::Complete
         };
+        self.each[i].state = gone(self.each[i].state, mv);
     }
 
     /// Makes an instance pending, in whatever state it is.
@@ -276,6 +290,22 @@ impl Table {
         self.each[place(&self.instances, at)].priority
     }
 
+    /// Where the handler of an instance begins.
+    pub fn entry(&self, at: Instance) -> u64
+        requires { IsOnBoard at self.now }
+        ensures { result ≡ (event at self.now).entry }
+    {
+        self.each[place(&self.instances, at)].entry
+    }
+
+    /// What the handler of an instance finds in a7.
+    pub fn arg(&self, at: Instance) -> u64
+        requires { IsOnBoard at self.now }
+        ensures { result ≡ (event at self.now).arg }
+    {
+        self.each[place(&self.instances, at)].arg
+    }
+
     /// One of the first six attributes of an instance.
     #[tactic(auto, unfolding(sse_base::specs::Calls::attribute))]
     pub fn get_attr(&self, at: Instance, attr: u8) -> u64
@@ -286,11 +316,13 @@ impl Table {
         let i = place(&self.instances, at);
         let event = self.each[i];
         match attr {
-            0 => number(event.state) + 4 * self.marks[i] as u64 + 8 * event.inject as u64,
-            1 => event.priority as u64,
-            2 => event.oneshot as u64,
-            3 => event.preferred as u64,
-            4 => event.entry,
+            attr::STATUS => {
+                event.state.number() + 4 * self.marks[i] as u64 + 8 * event.inject as u64
+            }
+            attr::PRIORITY => event.priority as u64,
+            attr::CONFIG => event.oneshot as u64,
+            attr::PREFERRED_HART => event.preferred as u64,
+            attr::ENTRY_PC => event.entry,
             _ => event.arg,
         }
     }
@@ -333,9 +365,9 @@ impl Table {
         let i = place(&self.instances, at);
         let old = self.each[i];
         let event = &mut self.each[i];
-        event.priority = word_for(1, base, values, old.priority as u64) as u32;
-        event.oneshot = word_for(2, base, values, old.oneshot as u64) == 1;
-        event.preferred = word_for(3, base, values, old.preferred as u64) as u8;
+        event.priority = word_for(attr::PRIORITY, base, values, old.priority as u64) as u32;
+        event.oneshot = word_for(attr::CONFIG, base, values, old.oneshot as u64) == 1;
+        event.preferred = word_for(attr::PREFERRED_HART, base, values, old.preferred as u64) as u8;
     }
 
     /// Writes a value to attribute 1, 2 or 3 of an instance: its priority, oneshot mark or preferred hart.

@@ -3,14 +3,17 @@
 ghost use Rattle.std.specs.Prelude.{◌≡◌, ◌≤◌, ◌+◌, length};
 ghost use Rattle.sse_base.specs.Calls.{is_never_written, is_shut, is_refused_value, some_attribute, some_word};
 
-use sse_base::{AttrRange, Instance, State};
+use sse_base::{AttrRange, Instance, State, attr};
 
 /// Whether an attribute of this event is never written.
 #[tactic(auto, unfolding(sse_base::specs::Calls::is_never_written))]
 fn is_never_written(at: Instance, attr: u8) -> bool
     ensures { result ≡ is_never_written at attr }
 {
-    matches!(attr, 0 | 4 | 5) || (attr == 3 && matches!(at, Instance::Local { .. }))
+    attr == attr::STATUS
+        || attr == attr::ENTRY_PC
+        || attr == attr::ENTRY_ARG
+        || (attr == attr::PREFERRED_HART && matches!(at, Instance::Local { .. }))
 }
 
 /// Whether an attribute may not be written now.
@@ -19,7 +22,8 @@ fn is_shut(state: State, running_here: bool, attr: u8) -> bool
     ensures { result ≡ is_shut state running_here attr }
 {
     let open = matches!(state, State::Unused | State::Registered);
-    (attr >= 1 && attr <= 3 && !open) || (attr >= 6 && !running_here)
+    (attr >= attr::PRIORITY && attr <= attr::PREFERRED_HART && !open)
+        || (attr >= attr::INTERRUPTED_SEPC && !running_here)
 }
 
 /// Whether an attribute can't have this value on a board of so many harts.
@@ -28,10 +32,10 @@ fn is_refused_value(harts: u8, attr: u8, value: u64) -> bool
     ensures { result ≡ is_refused_value harts attr value }
 {
     match attr {
-        1 => value > u32::MAX as u64,
-        2 => value > 1,
-        3 => value >= harts as u64,
-        7 => value > 3,
+        attr::PRIORITY => value > u32::MAX as u64,
+        attr::CONFIG => value > 1,
+        attr::PREFERRED_HART => value >= harts as u64,
+        attr::INTERRUPTED_FLAGS => value > 3,
         _ => false,
     }
 }

@@ -1,8 +1,9 @@
 //! The masks of the harts.
 
-ghost use Rattle.std.specs.Prelude.{◌≡◌, ◌<◌, ◌≤◌, length, replicate, slice_set, true, false, if◌then◌else◌, filter};
+ghost use Rattle.std.specs.Prelude.{◌≡◌, ◌<◌, ◌≤◌, length, replicate, true, filter};
 ghost use Rattle.sse_base.specs.Choice.{is_masked, waits_for, is_hart, target, chosen, least};
 ghost use Rattle.sse_base.specs.Events.{slots};
+ghost use Rattle.sse_base.specs.Calls.{mask, unmask};
 
 use crate::choice::{first_unmasked, is_above, more_urgent_of};
 use arrayvec::ArrayVec;
@@ -53,8 +54,8 @@ impl Targets {
     pub fn mask(&mut self, _table: &Table, hart: u8) -> SbiCode
         requires hart { hart < length self.old }
         requires table { length self.old ≡ _table.now.harts }
-        ensures code { result ≡ (if is_masked hart self.old then SbiCode.AlreadyStopped else SbiCode.Success) }
-        ensures masks { self.new ≡ (if is_masked hart self.old then self.old else slice_set self.old hart true) }
+        ensures code { result ≡ (mask hart self.old).0 }
+        ensures masks { self.new ≡ (mask hart self.old).1 }
         ensures harts { length self.new ≡ length self.old }
     {
         if self.masks[hart as usize] {
@@ -69,8 +70,8 @@ impl Targets {
     pub fn unmask(&mut self, _table: &Table, hart: u8) -> SbiCode
         requires hart { hart < length self.old }
         requires table { length self.old ≡ _table.now.harts }
-        ensures code { result ≡ (if is_masked hart self.old then SbiCode.Success else SbiCode.AlreadyStarted) }
-        ensures masks { self.new ≡ (if is_masked hart self.old then slice_set self.old hart false else self.old) }
+        ensures code { result ≡ (unmask hart self.old).0 }
+        ensures masks { self.new ≡ (unmask hart self.old).1 }
         ensures harts { length self.new ≡ length self.old }
     {
         if !self.masks[hart as usize] {

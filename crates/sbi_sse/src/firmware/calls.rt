@@ -3,21 +3,20 @@
 ghost use Rattle.std.specs.Prelude.{◌≡◌, ◌<◌, ◌≤◌, ◌+◌, true, take, []};
 ghost use Rattle.sse_base.specs.Events.{IsOnBoard};
 ghost use Rattle.sse_base.specs.Machine.{reach};
-ghost use Rattle.sse_base.specs.Words.{are_words, words_at};
-ghost use Rattle.sse_base.specs.Calls.{function, argument, read, reads, read_attrs, write_words};
+ghost use Rattle.sse_base.specs.Words.{are_words};
+ghost use Rattle.sse_base.specs.Calls.{function, read, reads, write_range};
 ghost use Rattle.sbi_sse.specs.Answered.{Answers};
 
 use crate::firmware::Firmware;
-use crate::parts::{CallNote, elsewhere, interrupted, note};
-use hart_ctx::Memory;
-use sse_base::{AttrRange, Instance, RangeFault, Reply, SbiCode, attr_range};
+use crate::parts::{CallNote, elsewhere, find_range, interrupted, note};
+use sse_base::{AttrRange, Function, Instance, Reply, SbiCode, attr};
 
 impl Firmware {
     /// Registers an event with where its handler begins and its argument.
     #[tactic(auto, using(crate::proofs::Places::stays))]
     pub(super) fn register(&mut self, hart: u8, args: [u64; 5]) -> CallNote
         requires { hart < self.old.events.harts }
-        ensures { Answers hart self.old self.new result (function hart 2 args self.old.stacks (reach hart self.old)) }
+        ensures { Answers hart self.old self.new result (function hart Function.Register args self.old.stacks (reach hart self.old)) }
     {
         let at = match self.table.find(args[0], hart) {
             Ok(at) => at,
@@ -30,7 +29,7 @@ impl Firmware {
     #[tactic(auto, using(crate::proofs::Places::stays))]
     pub(super) fn unregister(&mut self, hart: u8, args: [u64; 5]) -> CallNote
         requires { hart < self.old.events.harts }
-        ensures { Answers hart self.old self.new result (function hart 3 args self.old.stacks (reach hart self.old)) }
+        ensures { Answers hart self.old self.new result (function hart Function.Unregister args self.old.stacks (reach hart self.old)) }
     {
         let at = match self.table.find(args[0], hart) {
             Ok(at) => at,
@@ -43,7 +42,7 @@ impl Firmware {
     #[tactic(auto, using(crate::proofs::Places::stays))]
     pub(super) fn enable(&mut self, hart: u8, args: [u64; 5]) -> CallNote
         requires { hart < self.old.events.harts }
-        ensures { Answers hart self.old self.new result (function hart 4 args self.old.stacks (reach hart self.old)) }
+        ensures { Answers hart self.old self.new result (function hart Function.Enable args self.old.stacks (reach hart self.old)) }
     {
         let at = match self.table.find(args[0], hart) {
             Ok(at) => at,
@@ -56,7 +55,7 @@ impl Firmware {
     #[tactic(auto, using(crate::proofs::Places::stays))]
     pub(super) fn disable(&mut self, hart: u8, args: [u64; 5]) -> CallNote
         requires { hart < self.old.events.harts }
-        ensures { Answers hart self.old self.new result (function hart 5 args self.old.stacks (reach hart self.old)) }
+        ensures { Answers hart self.old self.new result (function hart Function.Disable args self.old.stacks (reach hart self.old)) }
     {
         let at = match self.table.find(args[0], hart) {
             Ok(at) => at,
@@ -69,7 +68,7 @@ impl Firmware {
     #[tactic(auto, using(crate::proofs::Places::stays))]
     pub(super) fn complete(&mut self, hart: u8) -> CallNote
         requires { hart < self.old.events.harts }
-        ensures { Answers hart self.old self.new result (function hart 6 [] self.old.stacks (reach hart self.old)) }
+        ensures { Answers hart self.old self.new result (function hart Function.Complete [] self.old.stacks (reach hart self.old)) }
     {
         let stack = &mut self.stacks[hart as usize];
         if let Some(at) = stack.complete() {
@@ -82,7 +81,7 @@ impl Firmware {
     #[tactic(auto, using(crate::proofs::Places::stays))]
     pub(super) fn unmask(&mut self, hart: u8) -> CallNote
         requires { hart < self.old.events.harts }
-        ensures { Answers hart self.old self.new result (function hart 8 [] self.old.stacks (reach hart self.old)) }
+        ensures { Answers hart self.old self.new result (function hart Function.HartUnmask [] self.old.stacks (reach hart self.old)) }
     {
         note(self.targets.unmask(&self.table, hart))
     }
@@ -91,7 +90,7 @@ impl Firmware {
     #[tactic(auto, using(crate::proofs::Places::stays))]
     pub(super) fn mask(&mut self, hart: u8) -> CallNote
         requires { hart < self.old.events.harts }
-        ensures { Answers hart self.old self.new result (function hart 9 [] self.old.stacks (reach hart self.old)) }
+        ensures { Answers hart self.old self.new result (function hart Function.HartMask [] self.old.stacks (reach hart self.old)) }
     {
         note(self.targets.mask(&self.table, hart))
     }
@@ -100,7 +99,7 @@ impl Firmware {
     #[tactic(auto, using(crate::proofs::Places::stays, crate::proofs::Injects::injected_none, crate::proofs::Injects::injected_some))]
     pub(super) fn inject(&mut self, hart: u8, args: [u64; 5]) -> CallNote
         requires { hart < self.old.events.harts }
-        ensures { Answers hart self.old self.new result (function hart 7 args self.old.stacks (reach hart self.old)) }
+        ensures { Answers hart self.old self.new result (function hart Function.Inject args self.old.stacks (reach hart self.old)) }
     {
         let at = match self.table.find(args[0], hart) {
             Ok(at) => at,
@@ -123,7 +122,7 @@ impl Firmware {
         requires attribute { attr ≤ 9 }
         ensures { result ≡ read attr at self.now.stacks self.now.events }
     {
-        if attr < 6 {
+        if attr < attr::INTERRUPTED_SEPC {
             self.table.get_attr(at, attr)
         } else {
             interrupted(&self.stacks, attr, at)
@@ -144,27 +143,6 @@ impl Firmware {
         out
     }
 
-    /// Puts the attributes of a range into memory.
-    #[tactic(auto, using(crate::proofs::Places::stays))]
-    fn read_range(&mut self, hart: u8, at: Instance, args: [u64; 5]) -> CallNote
-        requires hart { hart < self.old.events.harts }
-        requires on_board { IsOnBoard at self.old.events }
-        ensures { Answers hart self.old self.new result (read_attrs (argument args 1) (argument args 2) (argument args 3) (argument args 4) at self.old.stacks (reach hart self.old)) }
-    {
-        let range = match attr_range(args[1], args[2]) {
-            Ok(range) => range,
-            Err(RangeFault::Zero) => return note(SbiCode::InvalidParam),
-            Err(RangeFault::Reserved) => return note(SbiCode::BadRange),
-        };
-        if args[4] != 0 || !Memory::are_words(args[3], args[2]) {
-            return note(SbiCode::InvalidAddress);
-        }
-        let words = self.attributes(at, range);
-        self.memory
-            .write_words(args[3], &words[..range.count as usize]);
-        note(SbiCode::Success)
-    }
-
     /// Writes words to the attributes of a range, all or none.
     #[tactic(auto, using(crate::proofs::Places::stays))]
     fn write_range(&mut self, hart: u8, at: Instance, range: AttrRange, lo: u64) -> CallNote
@@ -172,7 +150,7 @@ impl Firmware {
         requires on_board { IsOnBoard at self.old.events }
         requires range { range.base + range.count ≤ 10 }
         requires words { are_words lo range.count ≡ true }
-        ensures { Answers hart self.old self.new result (write_words range.base (words_at self.old.memory lo range.count) at (reach hart self.old)) }
+        ensures { Answers hart self.old self.new result (write_range lo at (reach hart self.old) range) }
     {
         let words = self.memory.read_words(lo, range.count);
         let values = &words[..range.count as usize];
@@ -196,33 +174,35 @@ impl Firmware {
     #[tactic(auto, using(crate::proofs::Places::stays))]
     pub(super) fn read_attrs(&mut self, hart: u8, args: [u64; 5]) -> CallNote
         requires { hart < self.old.events.harts }
-        ensures { Answers hart self.old self.new result (function hart 0 args self.old.stacks (reach hart self.old)) }
+        ensures { Answers hart self.old self.new result (function hart Function.ReadAttrs args self.old.stacks (reach hart self.old)) }
     {
         let at = match self.table.find(args[0], hart) {
             Ok(at) => at,
             Err(code) => return note(code),
         };
-        self.read_range(hart, at, args)
+        let range = match find_range(args) {
+            Ok(range) => range,
+            Err(code) => return note(code),
+        };
+        let words = self.attributes(at, range);
+        self.memory
+            .write_words(args[3], &words[..range.count as usize]);
+        note(SbiCode::Success)
     }
 
     /// Writes words in memory to the attributes of an event, all or none.
     #[tactic(auto, using(crate::proofs::Places::stays))]
     pub(super) fn write_attrs(&mut self, hart: u8, args: [u64; 5]) -> CallNote
         requires { hart < self.old.events.harts }
-        ensures { Answers hart self.old self.new result (function hart 1 args self.old.stacks (reach hart self.old)) }
+        ensures { Answers hart self.old self.new result (function hart Function.WriteAttrs args self.old.stacks (reach hart self.old)) }
     {
         let at = match self.table.find(args[0], hart) {
             Ok(at) => at,
             Err(code) => return note(code),
         };
-        let range = match attr_range(args[1], args[2]) {
-            Ok(range) => range,
-            Err(RangeFault::Zero) => return note(SbiCode::InvalidParam),
-            Err(RangeFault::Reserved) => return note(SbiCode::BadRange),
-        };
-        if args[4] != 0 || !Memory::are_words(args[3], args[2]) {
-            return note(SbiCode::InvalidAddress);
+        match find_range(args) {
+            Ok(range) => self.write_range(hart, at, range, args[3]),
+            Err(code) => note(code),
         }
-        self.write_range(hart, at, range, args[3])
     }
 }
