@@ -1,2 +1,4 @@
 pub mod Digits
-pub mod Reading
+pub mod StatusBits
+pub mod Entries
+pub mod Registers

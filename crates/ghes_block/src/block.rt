@@ -1,71 +1,41 @@
 //! The block as bytes.
 
-ghost use Rattle.std.specs.Prelude.{◌≡◌, ◌↔◌, ◌+◌, ◌<◌, Some, IsTrue, [], ◌∷◌, ◌++◌, drop, length};
-ghost use Rattle.byteorder.specs.Endian.{little_number};
-ghost use Rattle.reri_fields.specs.declared.report.RecordCopy.{RecordCopy};
-ghost use Rattle.reri_fields.specs.Block.{IsCopy, Spells, block_status, entry, error_severity, header, section, spelling};
+ghost use Rattle.std.specs.Prelude.{◌≡◌, ◌+◌, ◌≤◌, [], ◌∷◌, ◌++◌, take, drop, length};
+ghost use Rattle.reri_fields.specs.Block.{IsCopy, entry, header, section, spelling, slot_text};
 
-use crate::parts::{put_bytes, put_u16, put_u32, put_u64, word_at};
-use reri_fields::{Control, RecordCopy, Severity, Status};
+use crate::copies::{block_status, error_severity};
+use crate::parts::{put_bytes, put_u16, put_u32, put_u64, put_within};
+use reri_fields::RecordCopy;
 
-/// The bytes of an error status block with one entry: a Generic Error Status Block of 20 bytes and a Generic Error Data
-/// Entry of 72 (ACPI 6.5, 18.3.2.7.1), and then the six registers of 8 bytes each (this project). Every number is
-/// little-endian.
+/// How many bytes stand before the entries: a Generic Error Status Block (ACPI 6.5, 18.3.2.7.1).
+pub(crate) const HEADER_BYTES: usize = 20;
+
+/// How many bytes an entry has: a Generic Error Data Entry of 72 (ACPI 6.5, 18.3.2.7.1), and then the six registers of
+/// 8 bytes each (this project).
+pub(crate) const ENTRY_BYTES: usize = 120;
+
+/// How many bytes a block of four entries has.
+pub const MOST_BYTES: usize = 500;
+
+/// The bytes of an error status block with one entry. Every number is little-endian.
 pub type Block = [u8; 140];
 
-/// Whether a block can hold the copy: a valid one with a severity, whose control and status have all their set bits
-/// inside fields (this project).
-pub fn is_copy(copy: &RecordCopy) -> bool
-    ensures { IsTrue result ↔ IsCopy copy.now }
-{
-    let control = Control(copy.control);
-    let status = Status(copy.status);
-    status.valid() && status.greatest().is_some() && status.is_clean() && control.is_clean()
-}
-
-// Block Status of a block that holds this copy alone.
-#[tactic(auto, unfolding(reri_fields::specs::Block::block_status, reri_fields::specs::Block::has_worst, reri_fields::specs::Block::is_worst, reri_fields::specs::Block::is_corrected, reri_fields::specs::Block::is_uncorrected, reri_fields::specs::Block::are_several))]
-fn block_status(copy: &RecordCopy) -> u32
-    ensures { result ≡ block_status (copy.now ∷ []) }
-{
-    let status = Status(copy.status);
-    let kind = match status.greatest() {
-        Some(Severity::Ce) => 2,
-        Some(Severity::Ued) => 1,
-        Some(Severity::Uec) => 1,
-        None => 0,
-    };
-    let several = if status.multiple() { 4 * kind } else { 0 };
-    kind + several + 16
-}
-
-// Error Severity of this copy: fatal, recoverable or corrected.
-#[tactic(auto, unfolding(reri_fields::specs::Block::error_severity, reri_fields::specs::Block::has_worst, reri_fields::specs::Block::is_worst))]
-fn error_severity(copy: &RecordCopy) -> u32
-    ensures { result ≡ error_severity (copy.now ∷ []) }
-{
-    match Status(copy.status).greatest() {
-        Some(Severity::Uec) => 1,
-        Some(Severity::Ued) => 0,
-        _ => 2,
-    }
-}
-
-// The Generic Error Status Block before one entry.
+/// The Generic Error Status Block before the entries.
 #[tactic(auto, unfolding(reri_fields::specs::Block::header))]
-fn header(copy: &RecordCopy) -> [u8; 20]
-    ensures { result ≡ header (copy.now ∷ []) }
+fn header(copies: &[RecordCopy]) -> [u8; 20]
+    requires { length copies.now ≤ 4 }
+    ensures { result ≡ header copies.now }
 {
     let mut out = [0; 20];
-    put_u32(&mut out, 0, block_status(copy)); // Block Status
+    put_u32(&mut out, 0, block_status(copies)); // Block Status
     put_u32(&mut out, 4, 0); // Raw Data Offset
     put_u32(&mut out, 8, 0); // Raw Data Length
-    put_u32(&mut out, 12, 120); // Data Length
-    put_u32(&mut out, 16, error_severity(copy)); // Error Severity
+    put_u32(&mut out, 12, 120 * copies.len() as u32); // Data Length
+    put_u32(&mut out, 16, error_severity(copies)); // Error Severity
     out
 }
 
-// The section of an entry: the six registers.
+/// The section of an entry: the six registers.
 #[tactic(auto, unfolding(reri_fields::specs::Block::section))]
 fn section(copy: &RecordCopy) -> [u8; 48]
     ensures { result ≡ section copy.now }
@@ -80,14 +50,14 @@ fn section(copy: &RecordCopy) -> [u8; 48]
     out
 }
 
-// The Generic Error Data Entry of the copy.
+/// The Generic Error Data Entry of the copy.
 #[tactic(auto, unfolding(reri_fields::specs::Block::entry, reri_fields::specs::Block::section_type, reri_fields::specs::Block::zeros))]
 fn entry(copy: &RecordCopy) -> [u8; 120]
     ensures { result ≡ entry copy.now }
 {
     let mut out = [0; 120];
     put_bytes(&mut out, 0, b"RERI-RECORD-0001"); // Section Type
-    put_u32(&mut out, 16, error_severity(copy)); // Error Severity
+    put_u32(&mut out, 16, error_severity(&[*copy])); // Error Severity
     put_u16(&mut out, 20, 0x0300); // Revision
     put_bytes(&mut out, 22, &[0; 1]); // Validation Bits
     put_bytes(&mut out, 23, &[0; 1]); // Flags
@@ -106,47 +76,26 @@ pub fn encode(copy: &RecordCopy) -> Block
     ensures { result ≡ spelling (copy.now ∷ []) }
 {
     let mut out = [0; 140];
-    put_bytes(&mut out, 0, &header(copy));
-    put_bytes(&mut out, 20, &entry(copy));
+    put_bytes(&mut out, 0, &header(&[*copy]));
+    put_bytes(&mut out, HEADER_BYTES, &entry(copy));
     out
 }
 
-// The six registers at their places, whatever else the bytes hold.
-fn read_section(bytes: &[u8]) -> RecordCopy
-    requires { length bytes.now ≡ 140 }
-    ensures control { result.control ≡ little_number 8 (drop 92 bytes.now) }
-    ensures status { result.status ≡ little_number 8 (drop 100 bytes.now) }
-    ensures address { result.address ≡ little_number 8 (drop 108 bytes.now) }
-    ensures info { result.info ≡ little_number 8 (drop 116 bytes.now) }
-    ensures supplement { result.supplement ≡ little_number 8 (drop 124 bytes.now) }
-    ensures time { result.time ≡ little_number 8 (drop 132 bytes.now) }
+/// Puts the block that holds the copies at the front of `out`, and tells its length; all other bytes stay. It never
+/// refuses: ask `is_copy` of each copy first.
+#[tactic(auto, unfolding(reri_fields::specs::Block::spelling), using(crate::proofs::Entries::rest_further))]
+pub fn encode_all(copies: &[RecordCopy], out: &mut [u8; 500]) -> usize
+    requires some { 1 ≤ length copies.now }
+    requires few { length copies.now ≤ 4 }
+    ensures length { result ≡ length (spelling copies.now) }
+    ensures block { take result out.new ≡ spelling copies.now }
+    ensures rest { drop result out.new ≡ drop result out.old }
 {
-    RecordCopy {
-        control: word_at(bytes, 92),
-        status: word_at(bytes, 100),
-        address: word_at(bytes, 108),
-        info: word_at(bytes, 116),
-        supplement: word_at(bytes, 124),
-        time: word_at(bytes, 132),
+    put_within(out, 0, &header(copies));
+    let mut place = HEADER_BYTES;
+    for copy in copies {
+        put_within(out, place, &entry(copy));
+        place += ENTRY_BYTES;
     }
-}
-
-/// The copy that the bytes spell: Some of it exactly where they are the block that holds it alone. None exactly where
-/// they are the block of no copy: another length, a field that is not what the registers make it (those that are 0
-/// too), or registers that no block can hold.
-pub fn decode(bytes: &[u8]) -> Option<RecordCopy>
-    ensures { (copy : RecordCopy) → (result ≡ Some copy) ↔ Spells bytes.now (copy ∷ []) }
-{
-    if bytes.len() != 140 {
-        return None;
-    }
-    let copy = read_section(bytes);
-    if !is_copy(&copy) {
-        return None;
-    }
-    if encode(&copy).as_slice() == bytes {
-        Some(copy)
-    } else {
-        None
-    }
+    place
 }

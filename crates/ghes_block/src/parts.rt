@@ -7,15 +7,25 @@ ghost use Rattle.reri_fields.specs.Block.{digits};
 
 use byteorder::{ByteOrder, LittleEndian};
 
-// Puts the bytes at a place.
-pub(crate) fn put_bytes(out: &mut [u8], place: usize, bytes: &[u8])
+/// Puts the bytes at a place; all other bytes stay.
+pub(crate) fn put_within(out: &mut [u8], place: usize, bytes: &[u8])
     requires { place + length bytes.now ≤ length out.old }
-    ensures { take (place + length bytes.now) out.new ≡ take place out.old ++ bytes.now }
+    ensures front { take (place + length bytes.now) out.new ≡ take place out.old ++ bytes.now }
+    ensures rest { drop (place + length bytes.now) out.new ≡ drop (place + length bytes.now) out.old }
+    ensures length { length out.new ≡ length out.old }
 {
     out[place..place + bytes.len()].copy_from_slice(bytes);
 }
 
-// Puts a number of two bytes at a place.
+/// Puts the bytes at a place, behind what was put before.
+pub(crate) fn put_bytes(out: &mut [u8], place: usize, bytes: &[u8])
+    requires { place + length bytes.now ≤ length out.old }
+    ensures { take (place + length bytes.now) out.new ≡ take place out.old ++ bytes.now }
+{
+    put_within(out, place, bytes);
+}
+
+/// Puts a number of two bytes at a place.
 pub(crate) fn put_u16(out: &mut [u8], place: usize, number: u16)
     requires { place + 2 ≤ length out.old }
     ensures { take (place + 2) out.new ≡ take place out.old ++ digits 2 number }
@@ -25,7 +35,7 @@ pub(crate) fn put_u16(out: &mut [u8], place: usize, number: u16)
     put_bytes(out, place, &field);
 }
 
-// Puts a number of four bytes at a place.
+/// Puts a number of four bytes at a place.
 pub(crate) fn put_u32(out: &mut [u8], place: usize, number: u32)
     requires { place + 4 ≤ length out.old }
     ensures { take (place + 4) out.new ≡ take place out.old ++ digits 4 number }
@@ -35,7 +45,7 @@ pub(crate) fn put_u32(out: &mut [u8], place: usize, number: u32)
     put_bytes(out, place, &field);
 }
 
-// Puts a number of eight bytes at a place.
+/// Puts a number of eight bytes at a place.
 pub(crate) fn put_u64(out: &mut [u8], place: usize, number: u64)
     requires { place + 8 ≤ length out.old }
     ensures { take (place + 8) out.new ≡ take place out.old ++ digits 8 number }
@@ -45,7 +55,7 @@ pub(crate) fn put_u64(out: &mut [u8], place: usize, number: u64)
     put_bytes(out, place, &field);
 }
 
-// The number in the eight bytes at a place.
+/// The number in the eight bytes at a place.
 pub(crate) fn word_at(bytes: &[u8], place: usize) -> u64
     requires { place + 8 ≤ length bytes.now }
     ensures { result ≡ little_number 8 (drop place bytes.now) }

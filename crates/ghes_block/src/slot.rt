@@ -1,59 +1,98 @@
 //! The place of a published block.
 
-ghost use Rattle.std.specs.Prelude.{◌≡◌, ◌↔◌, ℕ, List, Option, Some, None, IsTrue, IsSome, IsNone};
+ghost use Rattle.std.specs.Prelude.{◌≡◌, ◌↔◌, ◌+◌, ◌<◌, ◌≤◌, IsTrue, false, [], ◌∷◌, ◌++◌, length};
+ghost use Rattle.reri_fields.specs.Block.{IsCopy, Spells, slot_text};
 
-use crate::block::Block;
+use crate::block::encode_all;
+use arrayvec::ArrayVec;
+use reri_fields::RecordCopy;
 use std::marker::Model;
 
-/// The place where a bank's block is published: free, or full with one block until it is acknowledged (this project).
-/// In contracts it is None where it is free, and else Some of its bytes.
-#[derive(Debug, Drop)]
+/// The place where a bank's block is published: free, or full with the block of one to four copies until it is
+/// acknowledged (this project, after the acknowledgement of GHESv2 in ACPI 6.5, 18.3.2.8). In contracts it is the list
+/// of its copies, the oldest first.
+#[derive(Drop)]
 pub struct Slot {
-    block: Option<Block>,
+    copies: ArrayVec<RecordCopy, 4>,
+    bytes: [u8; 500],
+    length: usize,
 }
 
 impl Model for Slot {
-    ghost Value = { Option (List ℕ) };
+    ghost use Rattle.std.specs.Prelude.{List};
+    ghost use Rattle.reri_fields.specs.declared.report.RecordCopy.{RecordCopy};
 
-    ghost view = { λ s. s.block };
+    ghost Value = { List RecordCopy };
+
+    ghost view = { λ s. s.copies.items };
+
+    ghost use Rattle.ghes_block.specs.Held.{Holds};
+
+    ghost invariant = { λ s. Holds s.copies.items s.bytes s.length };
 }
 
 impl Slot {
     /// A free slot.
     pub fn new() -> Slot
-        ensures { result ≡ None }
+        ensures { result ≡ [] }
     {
-        Slot { block: None }
+        Slot {
+            copies: ArrayVec::new(),
+            bytes: [0; 500],
+            length: 0,
+        }
     }
 
     /// Whether the slot is free.
     pub fn is_free(&self) -> bool
-        ensures { IsTrue result ↔ IsNone self.now }
+        ensures { IsTrue result ↔ (self.now ≡ []) }
     {
-        self.block.is_none()
+        self.copies.is_empty()
     }
 
-    /// Puts a block into a free slot, which is full from then on. The block stays as it is until `acknowledge`.
-    pub fn fill(&mut self, block: &Block)
-        requires { IsNone self.old }
-        ensures { self.new ≡ Some block.now }
+    /// Puts one more copy into the block, behind those that stand there.
+    pub fn append(&mut self, copy: &RecordCopy)
+        requires room { length self.old < 4 }
+        requires copy { IsCopy copy.now }
+        ensures { self.new ≡ self.old ++ copy.now ∷ [] }
     {
-        self.block = Some(*block);
+        self.hold(*copy);
+    }
+
+    /// The same by value.
+    fn hold(&mut self, copy: RecordCopy)
+        requires room { length self.old < 4 }
+        requires copy { IsCopy copy }
+        ensures { self.new ≡ self.old ++ copy ∷ [] }
+    {
+        self.copies.push(copy);
+        self.length = encode_all(self.copies.as_slice(), &mut self.bytes);
+    }
+
+    /// The copies in the block, the oldest first.
+    pub fn copies(&self) -> &[RecordCopy]
+        ensures copies { result.now ≡ self.now }
+        ensures few { length self.now ≤ 4 }
+    {
+        self.copies.as_slice()
+    }
+
+    /// The bytes of the block, none where the slot is free.
+    pub fn bytes(&self) -> &[u8]
+        ensures bytes { result.now ≡ slot_text self.now }
+        ensures spelled { 1 ≤ length self.now → Spells result.now self.now }
+    {
+        &self.bytes[..self.length]
     }
 
     /// Frees the slot. True exactly where it was full.
     pub fn acknowledge(&mut self) -> bool
-        ensures full { IsTrue result ↔ IsSome self.old }
-        ensures free { self.new ≡ None }
+        ensures full { (result ≡ false) ↔ (self.old ≡ []) }
+        ensures free { self.new ≡ [] }
     {
-        self.block.take().is_some()
-    }
-
-    /// The block in a full slot.
-    pub fn block(&self) -> &Block
-        requires { IsSome self.now }
-        ensures { self.now ≡ Some result.now }
-    {
-        self.block.as_ref().unwrap()
+        let full = !self.copies.is_empty();
+        self.copies.clear();
+        self.length = 0;
+        full
     }
 }

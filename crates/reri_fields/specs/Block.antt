@@ -91,6 +91,11 @@ abbrev pub AreCopies : List RecordCopy → Type 0
 AreCopies [] = Unit {0}
 AreCopies (copy ∷ copies) = IsCopy copy × AreWords copy × AreCopies copies
 
+-- what stands in a slot that holds these copies: nothing where it is free
+unfoldable pub slot_text : List RecordCopy → List ℕ
+slot_text [] = []
+slot_text (copy ∷ copies) = spelling (copy ∷ copies)
+
 -- the text is the block of these copies, of which there are one to four
 pub record Spells (text : List ℕ) (copies : List RecordCopy) : Type 0 where
   pub some : 1 ≤ length copies

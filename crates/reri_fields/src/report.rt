@@ -26,7 +26,7 @@ pub struct Report {
 }
 
 /// The six registers of an error record, in their order.
-#[derive(Clone, Copy, PartialEq, Eq, Debug, Drop)]
+#[derive(Clone, Copy, PartialEq, Eq, Debug, Default, Drop)]
 pub struct RecordCopy {
     /// The control word.
     pub control: u64,
