@@ -131,14 +131,17 @@ abbrev pub fresh_bank : ℕ → ℕ → Bool → ℕ → BankDecl
 fresh_bank version home global recs =
     record { home = home; global = global; recs = recs; plat = None; gather = usual_gather version }
 
--- bank HOME local RECORDS, bank HOME global RECORDS
-unfoldable pub with_bank : Half → List (List ℕ) → Result Half LineFault
-with_bank h (home ∷ scope ∷ recs ∷ []) = do
+unfoldable pub bank_of : Half → List ℕ → List ℕ → List ℕ → Result Half LineFault
+bank_of h home scope recs = do
   home ← number_below h.plan.harts home
   global ← first_of_two (codes "global") (codes "local") scope
   recs ← number_from_1_to (most_records h.plan.version) recs
   _ ← otherwise Full (nat_lt (length h.plan.banks) 4)
   Ok (record h { plan = record h.plan { banks = h.plan.banks ++ fresh_bank h.plan.version home global recs ∷ [] } })
+
+-- bank HOME local RECORDS, bank HOME global RECORDS
+unfoldable pub with_bank : Half → List (List ℕ) → Result Half LineFault
+with_bank h (home ∷ scope ∷ recs ∷ []) = bank_of h home scope recs
 with_bank h words = Err Count
 
 unfoldable pub plat_of : Half → List ℕ → List ℕ → Result Half LineFault
@@ -232,9 +235,9 @@ with_start h words = Err Count
 
 -- ---- Reporters and their acts ----
 
--- a reporter with acts of its own: its limit is their number
-abbrev pub listed : List Act → Reporter
-listed acts = record { device = None; limit = length acts; acts = acts }
+-- a reporter with acts of its own, none so far
+abbrev pub fresh_list : Reporter
+fresh_list = record { device = None; limit = 0; acts = [] }
 
 abbrev pub device_of : ℕ → ℕ → Reporter
 device_of k limit = record { device = Some k; limit = limit; acts = [] }
@@ -246,7 +249,7 @@ added h r = do
 
 -- reporter list
 unfoldable pub with_list : Half → List (List ℕ) → Result Half LineFault
-with_list h [] = added h (listed [])
+with_list h [] = added h fresh_list
 with_list h words = Err Count
 
 -- reporter device K LIMIT
@@ -272,14 +275,15 @@ known_list reporters word = do
   _ ← otherwise Unknown (is_list (slice_get reporters n))
   Ok n
 
--- one more act of a reporter
+-- a reporter with one more act: its limit is the number of its acts
+abbrev pub and_act : Act → Reporter → Reporter
+and_act act r = record r { limit = length (r.acts ++ act ∷ []); acts = r.acts ++ act ∷ [] }
+
 unfoldable pub with_one_act : Half → ℕ → Act → Result Half LineFault
 with_one_act h n act = do
   r ← found Unknown (slice_get h.plan.reporters n)
   _ ← otherwise Full (nat_lt (length r.acts) 10000)
-  Ok (record h {
-    plan = record h.plan { reporters = slice_set h.plan.reporters n (listed (r.acts ++ act ∷ [])) };
-  })
+  Ok (record h { plan = record h.plan { reporters = slice_set h.plan.reporters n (and_act act r) } })
 
 -- the nine words of an error
 unfoldable pub error_of :
@@ -306,13 +310,18 @@ error_of bank rec sev pri code addr info supp time = do
     time = time;
   }))
 
+unfoldable pub error_act : List (List ℕ) → Result Act LineFault
+error_act (bank ∷ rec ∷ sev ∷ pri ∷ code ∷ addr ∷ info ∷ supp ∷ time ∷ []) =
+    error_of bank rec sev pri code addr info supp time
+error_act words = Err Count
+
 -- act R error BANK RECORD SEV PRI CODE ADDR INFO SUPP TIME, by the words behind `error`
 unfoldable pub with_error : Half → List ℕ → List (List ℕ) → Result Half LineFault
-with_error h reporter (bank ∷ rec ∷ sev ∷ pri ∷ code ∷ addr ∷ info ∷ supp ∷ time ∷ []) = do
+with_error h reporter words = do
+  _ ← otherwise Count (length words == 9)
   n ← known_list h.plan.reporters reporter
-  act ← error_of bank rec sev pri code addr info supp time
+  act ← error_act words
   with_one_act h n act
-with_error h reporter words = Err Count
 
 unfoldable pub raise_of : List ℕ → List ℕ → Result Act LineFault
 raise_of id hart = do
@@ -395,12 +404,14 @@ abbrev pub is_passed : List (List ℕ) → Bool
 is_passed [] = true
 is_passed (word ∷ words) = is_comment word
 
+-- what a line behind the first statement leaves, by its words
+unfoldable pub after_line : ℕ → Half → List (List ℕ) → Result Half Refusal
+after_line n h words = if is_passed words then Ok h else at_line n (statement h words)
+
 -- the lines from number n on, behind the first statement
 unfoldable pub follow : ℕ → Half → List (List ℕ) → Result Plan Refusal
 follow n h [] = Ok h.plan
-follow n h (l ∷ ls) =
-    if is_passed (words l) then follow (n + 1) h ls
-    else (at_line n (statement h (words l)) >>= λ k. follow (n + 1) k ls)
+follow n h (l ∷ ls) = after_line n h (words l) >>= λ k. follow (n + 1) k ls
 
 -- the lines from number n on, before the first statement: a text without any is refused behind its last line
 unfoldable pub begin : ℕ → List (List ℕ) → Result Plan Refusal

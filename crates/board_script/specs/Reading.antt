@@ -2,8 +2,7 @@
 use Rattle.std.specs.Prelude.{◌≡◌, ℕ, List, map, Result, Ok, Err}
 use Rattle.std.specs.Borrow.{Bor}
 use Rattle.board_plan.specs.declared.plan.LineFault.{LineFault}
-use Rattle.board_plan.specs.declared.plan.Plan.{Plan}
-use Rattle.board_plan.specs.Script.{Half, Refusal}
+use Rattle.board_plan.specs.Script.{Refusal}
 use Rattle.board_script.specs.declared.fault.ReadFault.{ReadFault}
 use Rattle.board_script.specs.declared.fault.ReadFault.TheVariants as fault
 use Rattle.board_script.specs.declared.fault.ScriptError.{ScriptError}
@@ -32,3 +31,8 @@ Moves (Err e) new wanted = Fails e wanted
 abbrev pub IsFault : {Y : Type 0} → ScriptError → Result Y Refusal → Type 0
 IsFault (BadLine line kind) wanted = wanted ≡ Err (record { line = line; kind = kind })
 IsFault NoMemory wanted = Unit {0}
+
+-- what it is after a line is what is wanted
+abbrev pub Passes : {X Y : Type 0} → Result X ScriptError → Y → Result Y Refusal → Type 0
+Passes (Ok x) new wanted = wanted ≡ Ok new
+Passes (Err e) new wanted = IsFault e wanted

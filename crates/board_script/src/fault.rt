@@ -40,3 +40,14 @@ impl From<NoMemory> for ReadFault {
         ReadFault::NoMemory
     }
 }
+
+impl From<NoMemory> for ScriptError {
+    ghost use Rattle.std.specs.Prelude.{◌≡◌};
+    ghost use Rattle.board_script.specs.declared.fault.ScriptError.TheVariants.{NoMemory as Wanting};
+
+    ghost from_gives = { λ _ e. e ≡ Wanting };
+
+    fn from(_e: NoMemory) -> ScriptError {
+        ScriptError::NoMemory
+    }
+}

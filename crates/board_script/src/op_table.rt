@@ -77,7 +77,10 @@ impl OpTable {
     pub(crate) fn into_list(self) -> List<Placed>
         ensures { result ≡ self }
     {
-        let OpTable { placed, addresses: _ } = self;
+        let OpTable {
+            placed,
+            addresses: _,
+        } = self;
         List::from_vec(placed)
     }
 }
