@@ -1,10 +1,14 @@
 //! The plan that a script gives.
 
+ghost use Rattle.std.specs.Prelude.{◌≡◌, IfOk};
+
 use crate::list::List;
 use crate::notes::Step;
 use crate::ops::Placed;
 use ras_device::Act;
+use ras_io::NoMemory;
 use sse_base::EventDecl;
+use std::alloc::Global;
 
 /// A bank of error records.
 #[derive(Clone, Copy, Debug, PartialEq, Eq)]
@@ -63,6 +67,62 @@ pub struct Plan {
     pub reporters: List<Reporter>,
     /// The steps that are tried, where the script gives them.
     pub schedule: Option<List<Step>>,
+}
+
+impl Reporter {
+    /// The same reporter once more.
+    pub fn copy(&self, alloc: Global) -> Result<Reporter, NoMemory>
+        ensures { IfOk result (λ r. r ≡ self.now) }
+    {
+        Ok(Reporter {
+            device: self.device,
+            limit: self.limit,
+            acts: self.acts.copy(alloc)?,
+        })
+    }
+}
+
+// the same reporters once more
+fn copy_reporters(alloc: Global, reporters: &[Reporter]) -> Result<List<Reporter>, NoMemory>
+    ensures { IfOk result (λ l. l ≡ reporters.now) }
+{
+    let mut copies = List::new(alloc);
+    for reporter in reporters {
+        copies.push(reporter.copy(alloc)?)?;
+    }
+    Ok(copies)
+}
+
+// the same schedule once more
+fn copy_schedule(
+    alloc: Global,
+    schedule: &Option<List<Step>>,
+) -> Result<Option<List<Step>>, NoMemory>
+    ensures { IfOk result (λ s. s ≡ schedule.now) }
+{
+    match schedule {
+        None => Ok(None),
+        Some(steps) => Ok(Some(steps.copy(alloc)?)),
+    }
+}
+
+impl Plan {
+    /// The same plan once more.
+    pub fn copy(&self, alloc: Global) -> Result<Plan, NoMemory>
+        ensures { IfOk result (λ p. p ≡ self.now) }
+    {
+        Ok(Plan {
+            version: self.version,
+            harts: self.harts,
+            events: self.events.copy(alloc)?,
+            banks: self.banks.copy(alloc)?,
+            recs: self.recs.copy(alloc)?,
+            ops: self.ops.copy(alloc)?,
+            starts: self.starts.copy(alloc)?,
+            reporters: copy_reporters(alloc, self.reporters.as_slice())?,
+            schedule: copy_schedule(alloc, &self.schedule)?,
+        })
+    }
 }
 
 /// Why a line of a script is refused. This project's own.

@@ -1,0 +1,2 @@
+-- Lemmas on the tables of a reader.
+pub mod Tables

@@ -1,0 +1,2 @@
+-- What the reader's own parts answer, against the board book.
+pub mod Reading

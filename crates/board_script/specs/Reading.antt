@@ -1,0 +1,38 @@
+-- What the parts of the reader answer, against the rules of scripts in the board book. This project's own.
+use Rattle.std.specs.Prelude.{◌≡◌, ℕ, List, map, Result, Ok, Err}
+use Rattle.std.specs.Borrow.{Bor}
+use Rattle.board_plan.specs.declared.plan.LineFault.{LineFault}
+use Rattle.board_plan.specs.Script.{Refusal}
+use Rattle.board_script.specs.declared.fault.ReadFault.{ReadFault}
+use Rattle.board_script.specs.declared.fault.ReadFault.TheVariants as fault
+use Rattle.board_script.specs.declared.fault.ScriptError.{ScriptError}
+use Rattle.board_script.specs.declared.fault.ScriptError.TheVariants.{BadLine, NoMemory}
+
+-- what words hold
+abbrev pub texts : List (Bor (List ℕ)) → List (List ℕ)
+texts ws = map (λ w. w.now) ws
+
+-- a failure is the line's refusal, or that memory is wanting
+abbrev pub Fails : {Y : Type 0} → ReadFault → Result Y LineFault → Type 0
+Fails (fault.Line kind) wanted = wanted ≡ Err kind
+Fails fault.NoMemory wanted = Unit {0}
+
+-- what was answered is what is wanted
+abbrev pub Gives : {Y : Type 0} → Result Y ReadFault → Result Y LineFault → Type 0
+Gives (Ok y) wanted = wanted ≡ Ok y
+Gives (Err e) wanted = Fails e wanted
+
+-- what it is afterwards is what is wanted
+abbrev pub Moves : {X Y : Type 0} → Result X ReadFault → Y → Result Y LineFault → Type 0
+Moves (Ok x) new wanted = wanted ≡ Ok new
+Moves (Err e) new wanted = Fails e wanted
+
+-- the refusal of a text, or that memory is wanting
+abbrev pub IsFault : {Y : Type 0} → ScriptError → Result Y Refusal → Type 0
+IsFault (BadLine line kind) wanted = wanted ≡ Err (record { line = line; kind = kind })
+IsFault NoMemory wanted = Unit {0}
+
+-- what it is after a line is what is wanted
+abbrev pub Passes : {X Y : Type 0} → Result X ScriptError → Y → Result Y Refusal → Type 0
+Passes (Ok x) new wanted = wanted ≡ Ok new
+Passes (Err e) new wanted = IsFault e wanted
