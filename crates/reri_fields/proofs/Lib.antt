@@ -3,3 +3,4 @@ pub mod Setters
 mod Rows
 mod WorkedRecords
 mod Blocks
+mod WorkedDrains
