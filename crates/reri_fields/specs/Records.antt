@@ -9,7 +9,7 @@ use Rattle.reri_fields.specs.declared.severity.Severity.{Severity}
 use Rattle.reri_fields.specs.declared.severity.Severity.TheVariants.{Ce, Ued, Uec}
 use Rattle.reri_fields.specs.declared.report.Report.{Report}
 use Rattle.reri_fields.specs.declared.report.RecordCopy.{RecordCopy}
-use Rattle.reri_fields.specs.Fields.{StatusFields, control_fields, status_fields, status_spare, status_word, severity_number}
+use Rattle.reri_fields.specs.Fields.{StatusFields, control_fields, control_spare, status_fields, status_spare, status_word, severity_number}
 
 -- ---- What can happen to a record ----
 
@@ -168,6 +168,13 @@ pub record Stands (origin : Origin) (history : List Event) (copy : RecordCopy) :
   pub count : (status_fields copy.status).count ≡ counted origin history % 65536
   pub overflow : (status_fields copy.status).overflow ≡ nat_lt 65535 (counted origin history)
   pub others : status_spare copy.status ≡ (0, 0, 0)
+
+-- What the registers of a record always are, whatever happened to it: it is valid exactly where a severity bit is set, and
+-- no bit outside the fields of its two words is set.
+pub record IsRecord (copy : RecordCopy) : Type 0 where
+  pub valid : (status_fields copy.status).valid ≡ ((status_fields copy.status).ce || (status_fields copy.status).ued || (status_fields copy.status).uec)
+  pub status_spare : status_spare copy.status ≡ (0, 0, 0)
+  pub control_spare : control_spare copy.control ≡ 0
 
 -- ---- The registers as a value ----
 

@@ -10,9 +10,12 @@ mod drain;
 mod report;
 mod severity;
 mod status;
+mod words;
 
+pub use bits::with_flag_at;
 pub use control::Control;
 pub use drain::{DrainNote, Phase};
 pub use report::{Logged, RecordCopy, Report};
 pub use severity::Severity;
 pub use status::Status;
+pub use words::{put_record, record_at};
