@@ -1,6 +1,7 @@
 pub mod Places
 pub mod Setters
 pub mod Copies
+pub mod Written
 mod Rows
 mod WorkedRecords
 mod Blocks

@@ -5,6 +5,7 @@
 -- three severities, priorities 0 to 3, an error of equal rank is kept out, and only corrected errors are counted.
 use Rattle.std.specs.Prelude.{◌≡◌, ℕ, ◌+◌, ◌*◌, ◌%◌, ◌^◌, ◌<◌, max, nat_lt, ◌==◌, Bool, true, false, not, ◌&&◌, ◌||◌, if◌then◌else◌}
 use Rattle.std.specs.Prelude.{List, [], ◌∷◌, ◌++◌, find, count_by, Option, Some, None}
+use Rattle.std.specs.Option.{option_map_or}
 use Rattle.reri_fields.specs.declared.severity.Severity.{Severity}
 use Rattle.reri_fields.specs.declared.severity.Severity.TheVariants.{Ce, Ued, Uec}
 use Rattle.reri_fields.specs.declared.report.Report.{Report}
@@ -74,6 +75,10 @@ is_any (error ∷ errors) = true
 -- the first of greatest rank, in a list whose oldest error is first
 unfoldable pub shown : List Error → Option Error
 shown errors = find (λ error. rank_of error == greatest_of rank_of errors) errors
+
+-- the rank of the shown error, and 0 where none is shown
+unfoldable pub shown_rank : List Error → ℕ
+shown_rank errors = option_map_or rank_of (shown errors) 0
 
 -- two or more have the greatest severity
 unfoldable pub is_multiple : List Error → Bool
