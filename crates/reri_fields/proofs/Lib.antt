@@ -1,5 +1,8 @@
 pub mod Places
 pub mod Setters
+pub mod Copies
+pub mod Written
 mod Rows
 mod WorkedRecords
 mod Blocks
+mod WorkedDrains

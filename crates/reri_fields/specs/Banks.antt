@@ -2,7 +2,8 @@
 -- and which of its records are signalled.
 -- A bank of records and the levels follow RERI 1.0 (an error bank, and the signal codes of `control_i`). The ask flag, and
 -- that a drain goes by the least record that is signalled, are this project's own.
-use Rattle.std.specs.Prelude.{◌≡◌, ℕ, ◌<◌, nat_lt, ◌==◌, Bool, true, false, ◌&&◌, ◌||◌, if◌then◌else◌, List, [], ◌∷◌, length, slice_get, Option, Some, None}
+use Rattle.std.specs.Prelude.{◌≡◌, ℕ, ◌<◌, nat_lt, ◌==◌, Bool, true, false, ◌&&◌, ◌||◌, if◌then◌else◌, List, [], ◌∷◌, length, find, slice_get, Option, Some, None}
+use Rattle.std.specs.List.{range_with_len}
 use Rattle.std.specs.Option.{option_map_or}
 use Rattle.reri_fields.specs.declared.report.RecordCopy.{RecordCopy}
 use Rattle.reri_fields.specs.declared.report.Logged.{Logged}
@@ -30,6 +31,14 @@ AllLogsBefore step (Logs error ∷ history) = (error.step < step) × AllLogsBefo
 AllLogsBefore step (Claims rec ∷ history) = AllLogsBefore step history
 AllLogsBefore step (Invalidates rec ∷ history) = AllLogsBefore step history
 AllLogsBefore step (ScanOver ∷ history) = AllLogsBefore step history
+
+-- the errors of the history came one after the other
+abbrev pub AreLogsInOrder : List BankEvent → Type 0
+AreLogsInOrder [] = Unit {0}
+AreLogsInOrder (Logs error ∷ history) = AllLogsBefore error.step history × AreLogsInOrder history
+AreLogsInOrder (Claims rec ∷ history) = AreLogsInOrder history
+AreLogsInOrder (Invalidates rec ∷ history) = AreLogsInOrder history
+AreLogsInOrder (ScanOver ∷ history) = AreLogsInOrder history
 
 -- what of it happened to one record
 unfoldable pub events_of : ℕ → List BankEvent → List Event
@@ -76,6 +85,10 @@ level_after origin history =
 unfoldable pub is_signalled_after : List Origin → List BankEvent → ℕ → Bool
 is_signalled_after origins history at =
     option_map_or (λ origin. nat_lt 0 (level_after origin (events_of at history))) (slice_get origins at) false
+
+-- the least record that is signalled
+unfoldable pub least_signalled : List Origin → List BankEvent → Option ℕ
+least_signalled origins history = find (is_signalled_after origins history) (range_with_len 0 (length origins))
 
 -- the level of a copy, told from its registers: the control's code for the greatest severity, 0 where there is none
 unfoldable pub copy_level : RecordCopy → ℕ

@@ -69,6 +69,17 @@ status_fields word = record {
 unfoldable pub status_spare : ℕ → ℕ × ℕ × ℕ
 status_spare word = (bits word 9 7, bits word 24 8, bits word 48 16)
 
+-- a bit of this value at a place
+unfoldable pub bit_at : ℕ → Bool → ℕ
+bit_at at value = (if value then 1 else 0) * 2 ^ at
+
+-- the status word that has these fields and no other bit
+unfoldable pub status_word : StatusFields → ℕ
+status_word fields =
+    bit_at 0 fields.valid + bit_at 1 fields.ce + bit_at 2 fields.ued + bit_at 3 fields.uec
+    + fields.priority * 2 ^ 4 + bit_at 6 fields.multiple + bit_at 7 fields.in_progress + bit_at 8 fields.overflow
+    + fields.code * 2 ^ 16 + fields.count * 2 ^ 32
+
 -- severities as numbers that rise with them
 unfoldable pub severity_number : Severity → ℕ
 severity_number Ce = 0

@@ -2,4 +2,6 @@ pub mod Fields
 pub mod Records
 pub mod Outcome
 pub mod Banks
+pub mod Words
+pub mod Drain
 pub mod Block

@@ -3,13 +3,14 @@
 -- The order of severities, that a greater error takes the place of a smaller one, and read-in-progress follow RERI 1.0
 -- (the registers `control_i` and `status_i`, and the rules for overwriting an error record) in this project's profile:
 -- three severities, priorities 0 to 3, an error of equal rank is kept out, and only corrected errors are counted.
-use Rattle.std.specs.Prelude.{◌≡◌, ℕ, ◌+◌, ◌*◌, ◌%◌, ◌<◌, max, nat_lt, ◌==◌, Bool, true, false, not, ◌&&◌, ◌||◌, if◌then◌else◌}
+use Rattle.std.specs.Prelude.{◌≡◌, ℕ, ◌+◌, ◌*◌, ◌%◌, ◌^◌, ◌<◌, max, nat_lt, ◌==◌, Bool, true, false, not, ◌&&◌, ◌||◌, if◌then◌else◌}
 use Rattle.std.specs.Prelude.{List, [], ◌∷◌, ◌++◌, find, count_by, Option, Some, None}
+use Rattle.std.specs.Option.{option_map_or}
 use Rattle.reri_fields.specs.declared.severity.Severity.{Severity}
 use Rattle.reri_fields.specs.declared.severity.Severity.TheVariants.{Ce, Ued, Uec}
 use Rattle.reri_fields.specs.declared.report.Report.{Report}
 use Rattle.reri_fields.specs.declared.report.RecordCopy.{RecordCopy}
-use Rattle.reri_fields.specs.Fields.{control_fields, status_fields, status_spare, severity_number}
+use Rattle.reri_fields.specs.Fields.{StatusFields, control_fields, control_spare, status_fields, status_spare, status_word, severity_number}
 
 -- ---- What can happen to a record ----
 
@@ -36,6 +37,24 @@ AllBefore step (Reported error ∷ history) = (error.step < step) × AllBefore s
 AllBefore step (Claimed ∷ history) = AllBefore step history
 AllBefore step (Invalidated ∷ history) = AllBefore step history
 
+-- the errors of the history came one after the other: each at a greater step than all that stand behind it
+abbrev pub AreInOrder : List Event → Type 0
+AreInOrder [] = Unit {0}
+AreInOrder (Reported error ∷ history) = AllBefore error.step history × AreInOrder history
+AreInOrder (Claimed ∷ history) = AreInOrder history
+AreInOrder (Invalidated ∷ history) = AreInOrder history
+
+-- what a report can say: each of its numbers fits its field or register
+pub record IsReport (report : Report) : Type 0 where
+  pub bank : report.bank < 2 ^ 8
+  pub rec : report.rec < 2 ^ 8
+  pub priority : report.priority < 4
+  pub code : report.code < 256
+  pub address : report.address < 2 ^ 64
+  pub info : report.info < 2 ^ 64
+  pub supplement : report.supplement < 2 ^ 64
+  pub time : report.time < 2 ^ 64
+
 -- ---- Errors, and which of them is shown ----
 
 unfoldable pub severity_of : Error → ℕ
@@ -56,6 +75,10 @@ is_any (error ∷ errors) = true
 -- the first of greatest rank, in a list whose oldest error is first
 unfoldable pub shown : List Error → Option Error
 shown errors = find (λ error. rank_of error == greatest_of rank_of errors) errors
+
+-- the rank of the shown error, and 0 where none is shown
+unfoldable pub shown_rank : List Error → ℕ
+shown_rank errors = option_map_or rank_of (shown errors) 0
 
 -- two or more have the greatest severity
 unfoldable pub is_multiple : List Error → Bool
@@ -150,3 +173,42 @@ pub record Stands (origin : Origin) (history : List Event) (copy : RecordCopy) :
   pub count : (status_fields copy.status).count ≡ counted origin history % 65536
   pub overflow : (status_fields copy.status).overflow ≡ nat_lt 65535 (counted origin history)
   pub others : status_spare copy.status ≡ (0, 0, 0)
+
+-- What the registers of a record always are, whatever happened to it: it is valid exactly where a severity bit is set, and
+-- no bit outside the fields of its two words is set.
+pub record IsRecord (copy : RecordCopy) : Type 0 where
+  pub valid : (status_fields copy.status).valid ≡ ((status_fields copy.status).ce || (status_fields copy.status).ued || (status_fields copy.status).uec)
+  pub status_spare : status_spare copy.status ≡ (0, 0, 0)
+  pub control_spare : control_spare copy.control ≡ 0
+
+-- ---- The registers as a value ----
+
+-- the fields of the status word after this history
+unfoldable pub status_after : Origin → List Event → StatusFields
+status_after origin history =
+    let errors = since origin history in
+    record {
+      valid = is_any errors;
+      ce = has_severity 0 errors;
+      ued = has_severity 1 errors;
+      uec = has_severity 2 errors;
+      priority = number_in (λ report. report.priority) (shown errors);
+      multiple = is_multiple errors;
+      in_progress = in_progress origin history;
+      overflow = nat_lt 65535 (counted origin history);
+      code = number_in (λ report. report.code) (shown errors);
+      count = counted origin history % 65536;
+    }
+
+-- the six registers after this history
+unfoldable pub copy_after : Origin → List Event → RecordCopy
+copy_after origin history =
+    let error = shown (since origin history) in
+    record {
+      control = origin.control;
+      status = status_word (status_after origin history);
+      address = number_in (λ report. report.address) error;
+      info = number_in (λ report. report.info) error;
+      supplement = number_in (λ report. report.supplement) error;
+      time = number_in (λ report. report.time) error;
+    }

@@ -33,8 +33,8 @@ pub(crate) fn flag_at(word: u64, place: u32) -> bool
     field(word, place, 1) == 1
 }
 
-// The word with the bit at a place set or cleared.
-pub(crate) fn with_flag_at(word: u64, place: u32, value: bool) -> u64
+/// The word with the bit at a place set or cleared, and every other bit as it was. Bit 0 is the lowest.
+pub fn with_flag_at(word: u64, place: u32, value: bool) -> u64
     requires { place < 64 }
     ensures { result ≡ with_bits word place 1 (if value then 1 else 0) }
 {

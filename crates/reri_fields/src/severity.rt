@@ -1,12 +1,12 @@
 //! How bad an error is.
 
 /// How bad an error is, in rising order (RERI 1.0: CE, UED, UEC).
-#[derive(Clone, Copy, PartialEq, Eq, PartialOrd, Ord, Debug, Drop)]
+#[derive(Clone, Copy, PartialEq, Eq, Debug, Drop)]
 pub enum Severity {
     /// Corrected.
     Ce,
-    /// Uncorrected, and the spoiled data is contained: work can go on without it.
+    /// Uncorrected, and deferred: the spoiled data is marked as such, and work can go on until it is used.
     Ued,
-    /// Uncorrected, and work must not go on.
+    /// Uncorrected, and critical: work must not go on.
     Uec,
 }

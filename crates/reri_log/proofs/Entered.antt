@@ -82,7 +82,7 @@ won : (errors : List Error) (e : Error) (fields : StatusFields) → wins fields 
 unfolding is_shown_after came_at
 won errors e fields w s = record { wins_is = w; shown_is = s; after = ap (came_at e.step) s ∙ eq-eqb e.step e.step refl }
 
-wins_none : (fields : StatusFields) (report : Report) → top fields ≡ None → wins fields report ≡ true
+pub wins_none : (fields : StatusFields) (report : Report) → top fields ≡ None → wins fields report ≡ true
 unfolding wins
 wins_none fields report h = rw h refl
 
@@ -94,12 +94,12 @@ rank_here : (e : Error) → rank e.report.severity e.report.priority ≡ rank_of
 unfolding rank rank_of severity_of
 rank_here e = refl
 
-shown_in_empty : (errors : List Error) (e : Error) → is_any errors ≡ false → shown (errors ++ e ∷ []) ≡ Some e
+pub shown_in_empty : (errors : List Error) (e : Error) → is_any errors ≡ false → shown (errors ++ e ∷ []) ≡ Some e
 unfolding is_any
 shown_in_empty [] e h = shown_alone e
 shown_in_empty (x ∷ xs) e h = absurd (true≢false h)
 
-lost_after : (errors : List Error) (e : Error) → StepsBelow e.step errors → is_any errors ≡ true → shown (errors ++ e ∷ []) ≡ shown errors → is_shown_after errors e ≡ false
+pub lost_after : (errors : List Error) (e : Error) → StepsBelow e.step errors → is_any errors ≡ true → shown (errors ++ e ∷ []) ≡ shown errors → is_shown_after errors e ≡ false
 unfolding is_shown_after came_at
 lost_after errors e below any s =
     let at = shown_some errors any in

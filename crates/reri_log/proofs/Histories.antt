@@ -46,7 +46,7 @@ since_before step origin (Invalidated ∷ history) h =
       | false ↦ since_before step origin history h
     ]
 
-is_any-push : (errors : List Error) (e : Error) → is_any (errors ++ e ∷ []) ≡ true
+pub is_any-push : (errors : List Error) (e : Error) → is_any (errors ++ e ∷ []) ≡ true
 unfolding is_any
 is_any-push [] e = refl
 is_any-push (x ∷ xs) e = refl

@@ -6,15 +6,16 @@
 //! project's own.
 #![tactic(auto)]
 
-ghost use Rattle.std.specs.Prelude.{◌≡◌, ℕ, ◌<◌, List, ◌∷◌, if◌then◌else◌};
+ghost use Rattle.std.specs.Prelude.{◌≡◌, ℕ, ◌+◌, ◌<◌, ◌≤◌, List, ◌∷◌, length, if◌then◌else◌};
 ghost use Rattle.reri_fields.specs.Fields.{status_fields, status_spare, severity_number};
 ghost use Rattle.reri_fields.specs.Records.{Event, Origin, AllBefore, Stands, is_counted};
 ghost use Rattle.reri_fields.specs.Records.Event.{Reported};
 ghost use Rattle.reri_fields.specs.Outcome.{outcome};
+ghost use Rattle.reri_fields.specs.Words.{copy_at, OneRecordChanges};
 ghost use Rattle.reri_log.specs.Update.{Updates, CountsUp, EntersInto, top, rank, wins, multiple_after, with_severity, marked, filled};
 
 pub use reri_fields::Logged;
-use reri_fields::{Control, RecordCopy, Report, Severity, Status};
+use reri_fields::{put_record, record_at, Control, RecordCopy, Report, Severity, Status};
 
 /// Logs one error into a record's registers, and says what became of it.
 ///
@@ -45,6 +46,27 @@ pub fn log(rec: &mut RecordCopy, report: &Report) -> Logged
         return Logged::Counted;
     }
     enter(rec, report)
+}
+
+/// Logs one error into the record that stands in `words` from the place `at` on, and says what became of it, just as `log`
+/// does. No word but those six changes.
+pub fn log_words(words: &mut [u64], at: usize, report: &Report) -> Logged
+    requires priority { report.now.priority < 4 }
+    requires room { at + 6 ≤ length words.old }
+    ensures stands { (origin : Origin) (history : List Event) (step : ℕ) → AllBefore step history
+        → Stands origin history (copy_at words.old at)
+        → Stands origin (Reported (record { step = step; report = report.now }) ∷ history) (copy_at words.new at) }
+    ensures answer { (origin : Origin) (history : List Event) (step : ℕ) → AllBefore step history
+        → Stands origin history (copy_at words.old at)
+        → result ≡ outcome origin history (record { step = step; report = report.now }) }
+
+    // The same for any registers.
+    ensures registers { OneRecordChanges (λ old new. Updates old report.now new result) at words.old words.new }
+{
+    let mut rec = record_at(words, at);
+    let answer = log(&mut rec, report);
+    put_record(words, at, &rec);
+    answer
 }
 
 /// Counts the error where the record counts it. True where that is all, since the count did not wrap.
