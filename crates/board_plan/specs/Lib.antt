@@ -3,3 +3,6 @@ pub mod State
 pub mod Ops
 pub mod Step
 pub mod Run
+pub mod Notes
+pub mod Fates
+pub mod Text
