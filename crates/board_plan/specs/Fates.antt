@@ -1,6 +1,6 @@
 -- What became of each error that reporters made. This project's own, over the histories of the record book (RERI 1.0).
--- The seven conditions stand apart from one another. They read the notes of the steps and what the record book says of the
--- histories that these tell; nothing here counts along, and nothing reads the state of the board.
+-- The seven conditions stand apart from one another. They read the notes of the steps and what the record book says of
+-- the histories that these tell; nothing here counts along, and nothing reads the state of the board.
 use Rattle.std.specs.Prelude.{◌≡◌, ℕ, suc, ◌==◌, ◌&&◌, ◌||◌, not, Bool, true, false, if◌then◌else◌, List, [], ◌∷◌, map, reverse, length, count_by, slice_get, Option, Some, None}
 use Rattle.reri_fields.specs.declared.report.Report.{Report}
 use Rattle.reri_fields.specs.declared.report.Logged.{Logged}
@@ -18,8 +18,8 @@ use Rattle.board_plan.specs.Run.{Noted}
 
 -- ---- What a record went through ----
 
--- What can happen to a record, and that a drain read its status last: true where it published. A list of deeds has the newest
--- first.
+-- What can happen to a record, and that a drain read its status last: true where it published. A list of deeds has the
+-- newest first.
 pub data Deed : Type 0 where
   Was : Event → Deed
   Checked : Bool → Deed
@@ -91,7 +91,8 @@ has_fate_here WasDisabled origin deeds step = is_answered says_disabled origin d
 has_fate_here WasCounted origin deeds step = is_answered says_counted origin deeds step
 has_fate_here WasKept origin deeds step = is_answered says_kept origin deeds step
 has_fate_here Drained origin deeds step = is_drained origin deeds step
-has_fate_here Overwritten origin deeds step = is_answered says_wrote origin deeds step && is_written_over origin deeds step
+has_fate_here Overwritten origin deeds step =
+    is_answered says_wrote origin deeds step && is_written_over origin deeds step
 has_fate_here Stands origin deeds step = is_shown origin deeds step && not (is_drained origin deeds step)
 
 -- an error for a record that the board hasn't is stray
@@ -105,8 +106,8 @@ has_fate_of fate deeds step (Some origin) = has_fate_here fate origin deeds step
 
 -- ---- Deeds and errors as notes tell them ----
 
--- What a note says of records: an error was made, a drain claimed a record, checked it (true where it published), tried to
--- clear it; or nothing.
+-- What a note says of records: an error was made, a drain claimed a record, checked it (true where it published), tried
+-- to clear it; or nothing.
 pub data News : Type 0 where
   Errs : Report → News
   Claims : ℕ → ℕ → News
@@ -139,7 +140,8 @@ is_at bank rec b r = (b == bank) && (r == rec)
 
 -- what a piece of news, of the step with this number, is for a record
 unfoldable pub deed_at : ℕ → ℕ → ℕ → News → Option Deed
-deed_at bank rec step (Errs report) = if is_at bank rec report.bank report.rec then Some (Was (Reported (error_at step report))) else None
+deed_at bank rec step (Errs report) =
+    if is_at bank rec report.bank report.rec then Some (Was (Reported (error_at step report))) else None
 deed_at bank rec step (Claims b r) = if is_at bank rec b r then Some (Was Claimed) else None
 deed_at bank rec step (Checks b r published) = if is_at bank rec b r then Some (Checked published) else None
 deed_at bank rec step (Invalidates b r) = if is_at bank rec b r then Some (Was Invalidated) else None
@@ -164,7 +166,8 @@ origin_at plan bank rec = origin_in bank rec plan (slice_get plan.banks bank)
 -- whether an error that was made has a fate
 abbrev pub has_fate : Plan → List News → Fate → Error → Bool
 has_fate plan ns fate error =
-    has_fate_of fate (deeds_of error.report.bank error.report.rec ns) error.step (origin_at plan error.report.bank error.report.rec)
+    let r = error.report in
+    has_fate_of fate (deeds_of r.bank r.rec ns) error.step (origin_at plan r.bank r.rec)
 
 abbrev pub ExactlyOne : (Fate → Bool) → Type 0
 ExactlyOne has = (fate : Fate) × (has fate ≡ true) × ((other : Fate) → has other ≡ true → other ≡ fate)

@@ -1,7 +1,7 @@
--- The ops of a supervisor's program: what each of them makes of its hart, and its note.
--- `sret`, and which registers user mode doesn't see, follow the RISC-V Privileged Specification in this project's profile:
--- six registers, an `sret` that leaves sepc, and an illegal op that is passed over. All else is this project's own.
--- An op acts on a hart whose pc is already past the op, 4 further.
+-- The ops of a supervisor's program: what each of them makes of its hart, and its note. `sret`, and which registers
+-- user mode doesn't see, follow the RISC-V Privileged Specification in this project's profile: six registers, an `sret`
+-- that leaves sepc, and an illegal op that is passed over. All else is this project's own. An op acts on a hart whose
+-- pc is already past the op, 4 further.
 use Rattle.std.specs.Prelude.{ℕ, ◌+◌, ◌%◌, ◌^◌, ◌==◌, nat_lt, Bool, true, false, if◌then◌else◌, List, Option, Some, None, find, option_map}
 use Rattle.sse_base.specs.declared.contexts.Privilege.{Privilege}
 use Rattle.sse_base.specs.declared.contexts.Privilege.TheVariants.{User, Supervisor}

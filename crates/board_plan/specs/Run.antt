@@ -69,7 +69,8 @@ steps_of ns = map (λ n. n.by) ns
 
 -- ---- Whose acts ----
 
--- the acts of a reporter: those that the plan lists, or those of the device that it names, none where there is no such device
+-- the acts of a reporter: those that the plan lists, or those of the device that it names, none where there is no such
+-- device
 abbrev pub acts_from : List (List Act) → Option plan_reporter.Reporter → List Act
 acts_from devices None = []
 acts_from devices (Some r) = acts_or_device devices r.acts r.device

@@ -1,7 +1,7 @@
--- A whole board between two steps, and what its plan says of each part.
--- Its event machine is that of the event book (SBI 3.0, "Supervisor Software Events"), and its banks are those of the record
--- book (RERI 1.0, and ACPI 6.5, 18.3.2.7 for the slot). Harts that begin masked and in supervisor mode, budgets of steps,
--- reporters and their limits, and that a record which no statement names begins with zeros, are this project's own.
+-- A whole board between two steps, and what its plan says of each part. Its event machine is that of the event book
+-- (SBI 3.0, "Supervisor Software Events"), and its banks are those of the record book (RERI 1.0, and ACPI 6.5, 18.3.2.7
+-- for the slot). Harts that begin masked and in supervisor mode, budgets of steps, reporters and their limits, and that
+-- a record which no statement names begins with zeros, are this project's own.
 use Rattle.std.specs.Prelude.{ℕ, ◌==◌, ◌&&◌, Bool, true, if◌then◌else◌, pos, List, [], ◌∷◌, map, replicate, slice_index_or}
 use Rattle.std.specs.List.{range_with_len}
 use Rattle.sse_base.specs.Events.{start_events}
@@ -33,7 +33,8 @@ budget_of h (s ∷ ss) = if s.hart == h then s.budget else budget_of h ss
 abbrev pub origin_of : ℕ → ℕ → List RecDecl → Origin
 origin_of bank rec [] = record { control = 0; count = 0 }
 origin_of bank rec (d ∷ ds) =
-    if (d.bank == bank) && (d.rec == rec) then record { control = d.control; count = d.count } else origin_of bank rec ds
+    if (d.bank == bank) && (d.rec == rec) then record { control = d.control; count = d.count }
+    else origin_of bank rec ds
 
 -- what never changes of a bank: how its records begin, and how many copies a drain of it gathers
 abbrev pub bank_plan : ℕ → BankDecl → List RecDecl → BankPlan
@@ -47,8 +48,8 @@ pub record ReporterState : Type 0 where
   pub made : ℕ
   pub plugged : Bool
 
--- the whole board: the firmware's machine, the banks, the reporters, what is counted of each hart, and how many steps were
--- made by all
+-- the whole board: the firmware's machine, the banks, the reporters, what is counted of each hart, and how many steps
+-- were made by all
 pub record BoardState : Type 0 where
   pub machine : Machine
   pub banks : List BankState

@@ -1,8 +1,8 @@
--- One step of a hart or a reporter of a whole board.
--- A hart makes the first that it can of: the next phase of its drain, the beginning of a drain, the delivery that is chosen for
--- it, the op at its pc. A reporter makes its next act. This order, budgets, limits and plugs are this project's own. Deliveries
--- and calls are those of the event book (SBI 3.0, "Supervisor Software Events"), a bank's steps those of the record book
--- (RERI 1.0); which event stands for which level of a bank is this project's own choice among SBI's RAS events.
+-- One step of a hart or a reporter of a whole board. A hart makes the first that it can of: the next phase of its
+-- drain, the beginning of a drain, the delivery that is chosen for it, the op at its pc. A reporter makes its next act.
+-- This order, budgets, limits and plugs are this project's own. Deliveries and calls are those of the event book (SBI
+-- 3.0, "Supervisor Software Events"), a bank's steps those of the record book (RERI 1.0); which event stands for which
+-- level of a bank is this project's own choice among SBI's RAS events.
 use Rattle.std.specs.Prelude.{ℕ, suc, ◌+◌, ◌==◌, ◌&&◌, nat_lt, Bool, true, false, if◌then◌else◌, List, length, find, slice_get, slice_set, Option, Some, None, is_some, option_map, unwrap_or}
 use Rattle.std.specs.List.{range_with_len}
 use Rattle.sse_base.specs.declared.codes.SbiCode.{SbiCode}
@@ -18,6 +18,7 @@ use Rattle.sse_base.specs.Calls.{delivered, with_events}
 use Rattle.reri_fields.specs.declared.drain.DrainNote.{DrainNote}
 use Rattle.reri_fields.specs.declared.drain.DrainNote.TheVariants as drain
 use Rattle.reri_fields.specs.declared.report.Report.{Report}
+use Rattle.reri_fields.specs.Records.{Error}
 use Rattle.reri_fields.specs.Drain.{BankState, BankTry, BankNote, BankStep, may_begin, bank_step}
 use Rattle.reri_fields.specs.Drain.BankTry.{Reports, Drains, Acknowledges}
 use Rattle.reri_fields.specs.Drain.BankNote.{Heard, Drew, Acknowledged}
@@ -69,7 +70,8 @@ pub record Stepped : Type 0 where
 
 -- ---- A bank on a board ----
 
--- the event of a level: 1 low priority RAS, 2 high priority RAS, 3 the platform's own, each local or global as the bank is
+-- the event of a level: 1 low priority RAS, 2 high priority RAS, 3 the platform's own, each local or global as the bank
+-- is
 abbrev pub level_event : BankDecl → ℕ → Option ℕ
 level_event d level =
     if level == 1 then Some (if d.global then 0x108000 else 0x100000)
@@ -159,7 +161,8 @@ drain_first (Some bank) waiting = Some bank
 drain_first None waiting = waiting
 
 unfoldable pub bank_due : ℕ → Plan → List BankState → Option ℕ
-bank_due h plan banks = drain_first (first_bank (is_draining h plan) plan banks) (first_bank (is_waiting h plan) plan banks)
+bank_due h plan banks =
+    drain_first (first_bank (is_draining h plan) plan banks) (first_bank (is_waiting h plan) plan banks)
 
 -- ---- The ops that reach banks and reporters ----
 
@@ -174,13 +177,15 @@ with_effect r e =
 -- `ack`: the bank's slot is acknowledged
 abbrev pub acknowledge : ℕ → Plan → BoardReach → Made
 acknowledge bank plan r =
-    unwrap_or (option_map (with_effect r) (at_bank bank Acknowledges plan r.own.events r.banks)) (quietly r (note.Ack bank None))
+    unwrap_or (option_map (with_effect r) (at_bank bank Acknowledges plan r.own.events r.banks))
+    (quietly r (note.Ack bank None))
 
 -- `unplug`: the reporter makes no further act
 abbrev pub unplugged : ℕ → BoardReach → Option ReporterState → Made
 unplugged reporter r None = quietly r (note.Unplug reporter false)
 unplugged reporter r (Some x) =
-    quietly (record r { reporters = slice_set r.reporters reporter (record x { plugged = false }) }) (note.Unplug reporter x.plugged)
+    let reporters = slice_set r.reporters reporter (record x { plugged = false }) in
+    quietly (record r { reporters = reporters }) (note.Unplug reporter x.plugged)
 
 -- ---- A hart's step ----
 
@@ -206,12 +211,14 @@ apply h plan stacks r (ops.Unplug reporter) = unplugged reporter r (slice_get r.
 abbrev pub allowed : ℕ → Plan → List Stack → BoardReach → Op → Made
 allowed h plan stacks r op =
     let next = record r { own = past r.own } in
-    if is_user r.own.stack.live.privilege && needs_supervisor op then quietly next note.Illegal else apply h plan stacks next op
+    if is_user r.own.stack.live.privilege && needs_supervisor op then quietly next note.Illegal
+    else apply h plan stacks next op
 
 -- the delivery that is chosen, else the op at pc
 abbrev pub on_chosen : ℕ → Plan → List Stack → BoardReach → Option Instance → Option Made
 on_chosen h plan stacks r None = option_map (allowed h plan stacks r) (op_at r.own.stack.live.pc plan.ops)
-on_chosen h plan stacks r (Some at) = Some (quietly (record r { own = delivered h at r.own }) (note.Deliver (id_of at).0))
+on_chosen h plan stacks r (Some at) =
+    Some (quietly (record r { own = delivered h at r.own }) (note.Deliver (id_of at).0))
 
 -- a drain that is due, else the other two
 abbrev pub on_due : ℕ → Plan → List Stack → BoardReach → Option ℕ → Option Made
@@ -225,7 +232,12 @@ own_step h plan stacks r = on_due h plan stacks r (bank_due h plan r.banks)
 -- what is counted of a step
 abbrev pub counted_call : SbiCode → Counts → Counts
 counted_call code c =
-    record { steps = c.steps + 1; calls = c.calls + 1; failed = if is_success code then c.failed else c.failed + 1; last = number_of code }
+    record {
+      steps = c.steps + 1;
+      calls = c.calls + 1;
+      failed = if is_success code then c.failed else c.failed + 1;
+      last = number_of code;
+    }
 
 abbrev pub counted : StepNote → Counts → Counts
 counted (note.Call eid fid args code written) c = counted_call code c
@@ -269,7 +281,8 @@ hart_step h plan s = step_of h plan s (slice_get s.machine.stacks h)
 -- an error is reported to its bank; it is stray where the board has no such bank or the bank no such record
 abbrev pub on_error : Plan → Report → BoardState → Effect
 on_error plan report s =
-    unwrap_or (at_bank report.bank (Reports (record { step = suc s.steps; report = report })) plan s.machine.events s.banks)
+    let error : Error = record { step = suc s.steps; report = report } in
+    unwrap_or (at_bank report.bank (Reports error) plan s.machine.events s.banks)
     (record { events = s.machine.events; banks = s.banks; note = note.Error report None; published = None })
 
 -- an event is raised, on the hart that is named where it is local; it is stray where the board has no such instance

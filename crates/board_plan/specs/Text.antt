@@ -1,6 +1,7 @@
--- The texts of a run: the trace, the full report and the short one. This project's own, but for the spelling of a block, which
--- is that of the record book. One space stands between words, bits are 0 or 1, and each line ends with a newline.
-use Rattle.std.specs.Prelude.{ℕ, ◌+◌, ◌-◌, ◌*◌, ◌/◌, ◌%◌, max, ◌==◌, nat_lt, Bool, true, false, if◌then◌else◌, List, [], ◌∷◌, ◌++◌, map, length, take, drop, Option, Some, None, codes, decimal}
+-- The texts of a run: the trace, the full report and the short one. This project's own, but for the spelling of a
+-- block, which is that of the record book. One space stands between words, bits are 0 or 1, and each line ends with a
+-- newline.
+use Rattle.std.specs.Prelude.{ℕ, ◌+◌, ◌*◌, ◌/◌, ◌%◌, max, ◌==◌, nat_lt, Bool, true, false, if◌then◌else◌, List, [], ◌∷◌, ◌++◌, map, length, take, drop, Option, Some, None, codes, decimal}
 use Rattle.std.specs.List.{flat_map, range_with_len}
 use Rattle.std.specs.Fmt.{signed_decimal}
 use Rattle.ras_text.specs.Numbers.{hexadecimal}
@@ -19,7 +20,7 @@ use Rattle.reri_fields.specs.declared.drain.Phase.TheVariants.{Scan, Claim, Addr
 use Rattle.reri_fields.specs.Records.{Origin, copy_after}
 use Rattle.reri_fields.specs.Banks.{BankEvent, events_of, asks}
 use Rattle.reri_fields.specs.Block.{spelling}
-use Rattle.reri_fields.specs.Drain.{Draining, BankPlan, BankState, is_free}
+use Rattle.reri_fields.specs.Drain.{Draining, BankState}
 use Rattle.ras_device.specs.declared.act.Act.{Act}
 use Rattle.board_plan.specs.declared.notes.Step.{Step}
 use Rattle.board_plan.specs.declared.notes.Step.TheVariants.{Hart, Reporter}
@@ -28,7 +29,7 @@ use Rattle.board_plan.specs.declared.notes.Fates as fates
 use Rattle.board_plan.specs.declared.plan.BankDecl.{BankDecl}
 use Rattle.board_plan.specs.declared.plan.RecDecl.{RecDecl}
 use Rattle.board_plan.specs.declared.plan.Plan.{Plan}
-use Rattle.board_plan.specs.State.{BoardState, bank_plan}
+use Rattle.board_plan.specs.State.{bank_plan}
 use Rattle.board_plan.specs.Run.{Noted, Ran, ran, steps_of}
 use Rattle.board_plan.specs.Notes.{note_text}
 use Rattle.board_plan.specs.Fates.{fates_of}
@@ -67,8 +68,8 @@ trace_lines number (n ∷ ns) = trace_line number n ∷ trace_lines (number + 1)
 unfoldable pub head_line : Plan → ℕ → List ℕ
 head_line plan steps =
     codes "board " ++ decimal plan.version ++ field (codes "harts") (decimal plan.harts)
-    ++ field (codes "banks") (decimal (length plan.banks)) ++ field (codes "reporters") (decimal (length plan.reporters))
-    ++ field (codes "steps") (decimal steps)
+    ++ field (codes "banks") (decimal (length plan.banks))
+    ++ field (codes "reporters") (decimal (length plan.reporters)) ++ field (codes "steps") (decimal steps)
 
 -- ---- Harts ----
 
@@ -157,8 +158,8 @@ drain_text (Some d) = phase_text d.phase ++ 32 ∷ decimal d.rec
 
 unfoldable pub bank_line : ℕ → BankDecl → List Origin → BankState → List ℕ
 bank_line bank d origins s =
-    codes "bank " ++ decimal bank ++ field (codes "home") (decimal d.home) ++ field (codes "scope") (scope_text d.global)
-    ++ field (codes "asks") (bit_text (asks origins s.history)) ++ field (codes "block") (slot_text s.slot)
+    codes "bank " ++ decimal bank ++ field (codes "home") (decimal d.home)
+    ++ field (codes "scope") (scope_text d.global) ++ field (codes "asks") (bit_text (asks origins s.history)) ++ field (codes "block") (slot_text s.slot)
     ++ field (codes "drain") (drain_text s.drain)
 
 unfoldable pub record_line : ℕ → ℕ → RecordCopy → List ℕ
@@ -180,8 +181,8 @@ hex_digit n = if nat_lt n 10 then 48 + n else 87 + n
 abbrev pub byte_text : ℕ → List ℕ
 byte_text b = hex_digit (b / 16) ∷ hex_digit (b % 16) ∷ []
 
--- The bytes of a block go on lines of their own: the first 140, which are its header and its first entry, and then each next
--- 120, an entry each.
+-- The bytes of a block go on lines of their own: the first 140, which are its header and its first entry, and then each
+-- next 120, an entry each.
 unfoldable pub bytes_of_entry : List ℕ → ℕ → List ℕ
 bytes_of_entry bytes k = if k == 0 then take 140 bytes else take 120 (drop (20 + 120 * k) bytes)
 
