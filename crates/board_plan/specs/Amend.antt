@@ -5,7 +5,10 @@
 use Rattle.std.specs.Prelude.{◌≡◌, ℕ, suc, ◌==◌, ◌&&◌, not, Bool, true, false, if◌then◌else◌, List, [], ◌∷◌, map, take, drop, filter, length, slice_get, slice_index, Option, Some, None}
 use Rattle.sse_base.specs.declared.contexts.Privilege.TheVariants.{User}
 use Rattle.sse_base.specs.Ids.{id_of, instance_of}
+use Rattle.sse_base.specs.declared.functions.Function.{Function}
+use Rattle.sse_base.specs.declared.functions.Function.TheVariants as functions
 use Rattle.sse_base.specs.Codes.{is_success}
+use Rattle.sse_base.specs.Functions.{function_of}
 use Rattle.sse_base.specs.Contexts.{Context, Frame, Stack, triple_of, with_triple, privilege_at}
 use Rattle.sse_base.specs.Calls.{extension, with_interrupted_triple, with_interrupted_words}
 use Rattle.ras_device.specs.declared.act.Act.{Act}
@@ -32,8 +35,12 @@ abbrev pub own_notes : ℕ → List Noted → List StepNote
 own_notes h ns = map (λ n. n.note) (filter (λ n. is_by h n.by) ns)
 
 -- an accepted complete
+abbrev pub is_done : Option Function → Bool
+is_done (Some functions.Complete) = true
+is_done f = false
+
 abbrev pub is_complete : StepNote → Bool
-is_complete (note.Call eid fid args code written) = (eid == extension) && (fid == 6) && is_success code
+is_complete (note.Call eid fid args code written) = (eid == extension) && is_done (function_of fid) && is_success code
 is_complete n = false
 
 -- the ids of handlers, the newest first

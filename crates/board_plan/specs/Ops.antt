@@ -16,7 +16,6 @@ use Rattle.board_plan.specs.declared.ops.Op.TheVariants as ops
 use Rattle.board_plan.specs.declared.ops.Placed.{Placed}
 use Rattle.board_plan.specs.declared.ops.Reg.{Reg}
 use Rattle.board_plan.specs.declared.ops.Reg.TheVariants.{A6, A7, Sepc, Spp, Spie, Sie}
-use Rattle.std.specs.Prelude.{slice_set}
 
 -- the op at an address
 abbrev pub op_at : ℕ → List Placed → Option Op
@@ -94,7 +93,7 @@ abbrev pub called : ℕ → ℕ → List ℕ → Answer → Done
 called eid fid args a = done a.reach (note.Call eid fid args a.code a.written)
 
 abbrev pub sbi : ℕ → ℕ → ℕ → List ℕ → List Stack → Reach → Done
-sbi h eid fid args stacks r = called eid fid args (call h eid fid args (slice_set stacks h r.stack) r)
+sbi h eid fid args stacks r = called eid fid args (call h eid fid args stacks r)
 
 -- `set`
 abbrev pub set : Reg → ℕ → Reach → Done

@@ -1,19 +1,13 @@
 -- Which plans a board can be made of: those within its limits. Each plan that a script gives is one. This project's
 -- own.
-use Rattle.std.specs.Prelude.{◌≡◌, ℕ, ◌+◌, ◌<◌, ◌≤◌, ◌==◌, ◌&&◌, not, Bool, true, List, [], ◌∷◌, length, slice_get, sum_by, Some}
-use Rattle.std.specs.List.{list_any}
-use Rattle.sse_base.specs.declared.events.EventDecl.{EventDecl}
+use Rattle.std.specs.Prelude.{◌≡◌, ℕ, ◌+◌, ◌<◌, ◌≤◌, true, List, length, slice_get, sum_by, Some}
+use Rattle.sse_base.specs.Start.{are_distinct}
 use Rattle.reri_fields.specs.declared.report.Report.{Report}
 use Rattle.ras_device.specs.declared.act.Act.{Act}
 use Rattle.ras_device.specs.declared.act.Act.TheVariants as act
 use Rattle.board_plan.specs.declared.plan.BankDecl.{BankDecl}
 use Rattle.board_plan.specs.declared.plan.RecDecl.{RecDecl}
 use Rattle.board_plan.specs.declared.plan.Plan.{Plan}
-
--- each event is declared once
-abbrev pub are_declared_once : List EventDecl → Bool
-are_declared_once [] = true
-are_declared_once (d ∷ ds) = not (list_any (λ e. e.id.0 == d.id.0) ds) && are_declared_once ds
 
 -- a bank of a board of so many harts
 pub record IsBank (harts : ℕ) (d : BankDecl) : Type 0 where
@@ -31,7 +25,7 @@ pub record IsPlan (plan : Plan) : Type 0 where
   pub harts : 1 ≤ plan.harts
   pub few_harts : plan.harts ≤ 32
   pub few_events : length plan.events ≤ 8
-  pub once : are_declared_once plan.events ≡ true
+  pub distinct : are_distinct plan.events ≡ true
   pub few_banks : length plan.banks ≤ 4
   pub banks : (i : ℕ) (d : BankDecl) → slice_get plan.banks i ≡ Some d → IsBank plan.harts d
   pub controls : (i : ℕ) (r : RecDecl) → slice_get plan.recs i ≡ Some r → r.control ≤ 0xff

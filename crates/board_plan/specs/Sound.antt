@@ -1,12 +1,15 @@
 -- What is safe in a run, at each of its states: nine facts. This project's own, over the event book (SBI 3.0,
 -- "Supervisor Software Events") and the record book (RERI 1.0).
-use Rattle.std.specs.Prelude.{◌≡◌, ℕ, zero, suc, ◌+◌, ◌≤◌, ◌==◌, ◌&&◌, max, ◌⊎◌, Bool, true, false, List, [], ◌∷◌, ◌++◌, length, sum_by, count_by, slice_get, Option, Some, None, option_map}
+use Rattle.std.specs.Prelude.{◌≡◌, ℕ, zero, suc, ◌+◌, ◌≤◌, ◌&&◌, max, ◌⊎◌, Bool, true, false, List, [], ◌∷◌, ◌++◌, length, sum_by, count_by, slice_get, Option, Some, None, option_map}
 use Rattle.sse_base.specs.declared.arrows.State.{State}
 use Rattle.sse_base.specs.declared.arrows.Move.{Move}
 use Rattle.sse_base.specs.declared.arrows.Move.TheVariants as moves
 use Rattle.sse_base.specs.declared.ids.Instance.{Instance}
 use Rattle.sse_base.specs.Ids.{id_of, instance_of, same_instance}
+use Rattle.sse_base.specs.declared.functions.Function.{Function}
+use Rattle.sse_base.specs.declared.functions.Function.TheVariants as functions
 use Rattle.sse_base.specs.Arrows.{arrow}
+use Rattle.sse_base.specs.Functions.{function_of}
 use Rattle.sse_base.specs.Codes.{is_success}
 use Rattle.sse_base.specs.Events.{Events, event, is_running}
 use Rattle.sse_base.specs.Contexts.{Frame, Stack, bit}
@@ -35,14 +38,14 @@ use Rattle.board_plan.specs.Fates.News.{Checks}
 -- ---- 1: states change by arrows ----
 
 -- the move that a call makes, by its function
-abbrev pub is_move_of : ℕ → Move → Bool
-is_move_of fid moves.Register = fid == 2
-is_move_of fid moves.Unregister = fid == 3
-is_move_of fid moves.Enable = fid == 4
-is_move_of fid moves.Disable = fid == 5
-is_move_of fid moves.Deliver = false
-is_move_of fid moves.Complete = fid == 6
-is_move_of fid moves.CompleteOnce = fid == 6
+abbrev pub is_move_of : Option Function → Move → Bool
+is_move_of (Some functions.Register) moves.Register = true
+is_move_of (Some functions.Unregister) moves.Unregister = true
+is_move_of (Some functions.Enable) moves.Enable = true
+is_move_of (Some functions.Disable) moves.Disable = true
+is_move_of (Some functions.Complete) moves.Complete = true
+is_move_of (Some functions.Complete) moves.CompleteOnce = true
+is_move_of f mv = false
 
 abbrev pub is_delivery : Move → Bool
 is_delivery moves.Deliver = true
@@ -51,7 +54,7 @@ is_delivery mv = false
 -- the moves that are a step's own
 abbrev pub makes : StepNote → Move → Bool
 makes (note.Deliver id) mv = is_delivery mv
-makes (note.Call eid fid args code written) mv = is_success code && is_move_of fid mv
+makes (note.Call eid fid args code written) mv = is_success code && is_move_of (function_of fid) mv
 makes n mv = false
 
 abbrev pub state_of : Instance → BoardState → State

@@ -4,10 +4,8 @@
 -- a record which no statement names begins with zeros, are this project's own.
 use Rattle.std.specs.Prelude.{ℕ, ◌==◌, ◌&&◌, Bool, true, if◌then◌else◌, pos, List, [], ◌∷◌, map, replicate, slice_index_or}
 use Rattle.std.specs.List.{range_with_len}
-use Rattle.sse_base.specs.Events.{start_events}
-use Rattle.sse_base.specs.Contexts.{Stack, fresh_stack}
-use Rattle.sse_base.specs.Words.{fresh_memory}
 use Rattle.sse_base.specs.Machine.{Machine}
+use Rattle.sse_base.specs.Start.{start_machine}
 use Rattle.reri_fields.specs.Records.{Origin}
 use Rattle.reri_fields.specs.Drain.{BankPlan, BankState, bank_start}
 use Rattle.board_plan.specs.declared.notes.Counts.{Counts}
@@ -69,19 +67,15 @@ counts_of h s = slice_index_or s.counts h no_counts
 abbrev pub fresh_reporter : Reporter → ReporterState
 fresh_reporter r = record { made = 0; plugged = true }
 
-abbrev pub start_stacks : ℕ → List Start → List Stack
-start_stacks harts starts = map (λ h. fresh_stack (start_of h starts)) (range_with_len 0 harts)
+-- where each hart begins
+abbrev pub start_places : ℕ → List Start → List ℕ
+start_places harts starts = map (λ h. start_of h starts) (range_with_len 0 harts)
 
 -- every hart is masked, every event unused, every record is as it begins, and all memory is 0
 abbrev pub start_state : Plan → BoardState
 start_state plan =
     record {
-      machine = record {
-        events = start_events plan.harts plan.events;
-        masks = replicate plan.harts true;
-        stacks = start_stacks plan.harts plan.starts;
-        memory = fresh_memory;
-      };
+      machine = start_machine plan.harts plan.events (start_places plan.harts plan.starts);
       banks = map (λ d. bank_start) plan.banks;
       reporters = map fresh_reporter plan.reporters;
       counts = replicate plan.harts no_counts;
