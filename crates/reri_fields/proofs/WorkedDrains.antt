@@ -4,6 +4,7 @@ use Rattle.std.specs.Prelude.{replicate}
 use Rattle.reri_fields.specs.declared.severity.Severity.{Severity}
 use Rattle.reri_fields.specs.declared.severity.Severity.TheVariants.{Ce, Ued, Uec}
 use Rattle.reri_fields.specs.declared.report.RecordCopy.{RecordCopy}
+use Rattle.reri_fields.specs.declared.report.Logged.{Logged}
 use Rattle.reri_fields.specs.declared.report.Logged.TheVariants.{Wrote}
 use Rattle.reri_fields.specs.declared.drain.DrainNote.TheVariants as note
 use Rattle.reri_fields.specs.Fields.{control_fields, status_fields, level_of, greatest, severity_number, flag, bits, bit_at, status_word}
@@ -30,6 +31,10 @@ error step rec severity priority code address time = record {
     time = time;
   };
 }
+
+-- what became of an error
+abbrev heard_of : Error → Option Logged → BankNote
+heard_of e logged = Heard e.report logged
 
 -- a bank after some tries, and the notes of those that made a step
 abbrev taken : Option BankStep → BankState → BankState
@@ -76,7 +81,8 @@ one_record rec copy =
     ∷ (read_all rec ++ Drew rec (note.Published copy) ∷ Drew rec (note.Invalidated true) ∷ [])
 
 two_notes : notes two bank_start (two_errors ++ replicate 17 Drains) ≡
-    Heard (Some (Wrote 1)) ∷ Heard (Some (Wrote 2)) ∷ (one_record 0 first_copy ++ one_record 1 second_copy ++ Drew 1 (note.Signal 2) ∷ [])
+    heard_of (error 1 0 Ce 0 1 0x100 1) (Some (Wrote 1)) ∷ heard_of (error 2 1 Uec 0 2 0x200 2) (Some (Wrote 2))
+    ∷ (one_record 0 first_copy ++ one_record 1 second_copy ++ Drew 1 (note.Signal 2) ∷ [])
 unfolding bank_step asks raised least_signalled is_signalled_after level_after events_of level_in outcome wrote in_progress since is_logged control_fields status_fields flag bits level_of is_counted is_ce counted is_any is_shown_after came_at shown greatest_of rank_of severity_of severity_number has_severity is_multiple number_in status_after copy_after status_word bit_at copy_level greatest is_free
 two_notes = refl
 
@@ -118,7 +124,8 @@ torn_copy : RecordCopy
 torn_copy = record { control = 0x95; status = 0x2008d; address = 0x200; info = 0; supplement = 0; time = 2 }
 
 torn_notes : notes one bank_start torn_tries ≡
-    Heard (Some (Wrote 1)) ∷ Drew 0 (note.Scanned 0) ∷ Drew 0 note.Claimed ∷ Heard (Some (Wrote 2))
+    heard_of (error 1 0 Ued 0 2 0x100 1) (Some (Wrote 1)) ∷ Drew 0 (note.Scanned 0) ∷ Drew 0 note.Claimed
+    ∷ heard_of (error 4 0 Uec 0 2 0x200 2) (Some (Wrote 2))
     ∷ (read_all 0 ++ Drew 0 note.Torn ∷ Drew 0 note.Claimed ∷ (read_all 0
     ++ Drew 0 (note.Published torn_copy) ∷ Drew 0 (note.Invalidated true) ∷ Drew 0 (note.Signal 2) ∷ []))
 unfolding bank_step asks raised least_signalled is_signalled_after level_after events_of level_in outcome wrote in_progress since is_logged control_fields status_fields flag bits level_of is_counted is_ce counted is_any is_shown_after came_at shown greatest_of rank_of severity_of severity_number has_severity is_multiple number_in status_after copy_after status_word bit_at copy_level greatest is_free torn_copy
@@ -134,8 +141,11 @@ late_stays : is_signalled_after one.origins (after one bank_start late_tries).hi
 unfolding bank_step asks raised least_signalled is_signalled_after level_after events_of level_in outcome wrote in_progress since is_logged control_fields status_fields flag bits level_of is_counted is_ce counted is_any is_shown_after came_at shown greatest_of rank_of severity_of severity_number has_severity is_multiple number_in status_after copy_after status_word bit_at copy_level greatest is_free
 late_stays = refl
 
-late_stands : notes one (after one bank_start (Reports (error 1 0 Ued 0 2 0x100 1) ∷ replicate 7 Drains)) (Reports (error 9 0 Uec 1 2 0x200 2) ∷ Drains ∷ Drains ∷ []) ≡
-    Heard (Some (Wrote 2)) ∷ Drew 0 (note.Invalidated false) ∷ Drew 0 (note.Signal 1) ∷ []
+late_stands :
+    notes one (after one bank_start (Reports (error 1 0 Ued 0 2 0x100 1) ∷ replicate 7 Drains))
+    (Reports (error 9 0 Uec 1 2 0x200 2) ∷ Drains ∷ Drains ∷ [])
+    ≡
+    heard_of (error 9 0 Uec 1 2 0x200 2) (Some (Wrote 2)) ∷ Drew 0 (note.Invalidated false) ∷ Drew 0 (note.Signal 1) ∷ []
 unfolding bank_step asks raised least_signalled is_signalled_after level_after events_of level_in outcome wrote in_progress since is_logged control_fields status_fields flag bits level_of is_counted is_ce counted is_any is_shown_after came_at shown greatest_of rank_of severity_of severity_number has_severity is_multiple number_in status_after copy_after status_word bit_at copy_level greatest is_free
 late_stands = refl
 
@@ -147,6 +157,6 @@ unfolding bank_step asks raised least_signalled is_signalled_after level_after e
 nothing_due = refl
 
 -- an error for a record that the bank has not
-stray : notes one bank_start (Reports (error 1 1 Uec 0 2 0x100 1) ∷ Drains ∷ []) ≡ Heard None ∷ []
+stray : notes one bank_start (Reports (error 1 1 Uec 0 2 0x100 1) ∷ Drains ∷ []) ≡ heard_of (error 1 1 Uec 0 2 0x100 1) None ∷ []
 unfolding bank_step asks raised least_signalled is_signalled_after level_after events_of level_in outcome wrote in_progress since is_logged control_fields status_fields flag bits level_of is_counted is_ce counted is_any is_shown_after came_at shown greatest_of rank_of severity_of severity_number has_severity is_multiple number_in status_after copy_after status_word bit_at copy_level greatest is_free
 stray = refl

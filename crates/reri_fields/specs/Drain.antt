@@ -5,6 +5,7 @@
 use Rattle.std.specs.Prelude.{ℕ, suc, max, nat_lt, ◌==◌, Bool, true, false, ◌&&◌, if◌then◌else◌, List, [], ◌∷◌, ◌++◌, slice_get, Option, Some, None}
 use Rattle.std.specs.Option.{option_map}
 use Rattle.reri_fields.specs.declared.report.RecordCopy.{RecordCopy}
+use Rattle.reri_fields.specs.declared.report.Report.{Report}
 use Rattle.reri_fields.specs.declared.report.Logged.{Logged}
 use Rattle.reri_fields.specs.declared.drain.Phase.{Phase}
 use Rattle.reri_fields.specs.declared.drain.Phase.TheVariants.{Scan, Claim, Address, Info, Supplement, Time, Check, Invalidate, Signal}
@@ -189,7 +190,7 @@ pub data BankTry : Type 0 where
 -- What such a step came to: what became of an error (none where the bank has not the record that it names), the record and
 -- the note of a drain's step, and whether an acknowledgement found the slot full.
 pub data BankNote : Type 0 where
-  Heard : Option Logged → BankNote
+  Heard : Report → Option Logged → BankNote
   Drew : ℕ → DrainNote → BankNote
   Acknowledged : Bool → BankNote
 
@@ -212,7 +213,7 @@ drained_by plan s (Some d) = Some (drew d (phase_step plan s d d.phase))
 -- what a try at a bank makes of it; none where no drain is due
 unfoldable pub bank_step : BankPlan → BankState → BankTry → Option BankStep
 bank_step plan s (Reports error) =
-    Some (record { state = reported error s; note = Heard (heard plan.origins s.history error) })
+    Some (record { state = reported error s; note = Heard error.report (heard plan.origins s.history error) })
 bank_step plan s Drains = drained_by plan s (due_drain plan s s.drain)
 bank_step plan s Acknowledges =
     Some (record { state = acknowledged s; note = Acknowledged (if is_free s.slot then false else true) })
