@@ -103,15 +103,19 @@ fn writes_the_lines_before_a_write_that_failed(rt: HostRuntime) -> Result<(), Fa
 struct Narrow {
     taken: Vec<u8>,
     room: usize,
+    writes: u64,
     faults: u64,
 }
 
 impl Sink for Narrow {
     ghost written = { λ s. Some s.taken.items };
 
+    ghost writes = { λ s. s.writes };
+
     ghost faults = { λ s. s.faults };
 
     fn write(&mut self, bytes: &[u8]) -> Result<(), SinkFault> {
+        self.writes = self.writes.saturating_add(1);
         let count = bytes.len().min(self.room.saturating_sub(self.taken.len()));
         let (front, rest) = bytes.split_at(count);
         if self.taken.extend_from_slice(front).is_ok() && rest.is_empty() {
@@ -131,6 +135,7 @@ fn writes_a_front_to_a_sink_that_is_full(rt: HostRuntime) -> Result<(), Fail> {
         let mut sink = Narrow {
             taken: Vec::new(rt.alloc()),
             room,
+            writes: 0,
             faults: 0,
         };
         let status = play(rt.alloc(), ["play"].as_slice(), &mut source, &mut sink);

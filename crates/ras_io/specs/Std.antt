@@ -8,10 +8,11 @@ pub record Incoming : Type 0 where
   pub faults : ℕ
 
 -- a sink: the bytes that the writer was given, where it tells them, those that wait to be given,
--- and the count of faults
+-- and the counts of writes and of faults
 pub record Outgoing : Type 0 where
   pub out : Option (List ℕ)
   pub waiting : List ℕ
+  pub writes : ℕ
   pub faults : ℕ
 
 -- the bytes that were written to the sink

@@ -2,7 +2,7 @@
 ghost use Rattle.std.specs.Prelude.{◌≡◌, ℕ, ◌+◌, ◌≤◌, ◌<◌, [], List, length, take, drop, Some, OnOk, OnErr, IfOk, is_ok, is_err, ◌++◌};
 ghost use Rattle.std.specs.Io.{ReadsAtMost};
 ghost use Rattle.std.specs.Io.KnownBytes.{ReadConsumes};
-ghost use Rattle.ras_io.specs.Causes.{HasCause, Puts};
+ghost use Rattle.ras_io.specs.Causes.{HasCause, Puts, one_more};
 ghost use Rattle.ras_io.specs.Memory.{fails_next, given, after_read, takes, after_write};
 
 use crate::faults::{NoMemory, SinkFault, SourceFault};
@@ -152,10 +152,13 @@ impl MemSink {
 impl Sink for MemSink {
     ghost written = { λ s. Some s.written };
 
+    ghost writes = { λ s. s.calls };
+
     ghost faults = { λ s. s.faults };
 
     fn write(&mut self, bytes: &[u8]) -> Result<(), SinkFault>
         ensures bytes { Puts (Some self.old.written) (Some self.new.written) result bytes.now }
+        ensures counted { self.new.calls ≡ one_more self.old.calls }
         ensures cause { HasCause self.old.faults self.new.faults result }
         ensures takes { is_ok result ≡ takes bytes.now self.old }
         ensures after { self.new ≡ after_write bytes.now self.old }

@@ -1,8 +1,8 @@
 //! Where bytes come from and where they go (the traits are this project's own).
-ghost use Rattle.std.specs.Prelude.{ℕ, List, Option};
+ghost use Rattle.std.specs.Prelude.{◌≡◌, ℕ, List, Option};
 ghost use Rattle.std.specs.Io.{ReadsAtMost};
 ghost use Rattle.std.specs.Io.KnownBytes.{ReadConsumes};
-ghost use Rattle.ras_io.specs.Causes.{HasCause, Puts};
+ghost use Rattle.ras_io.specs.Causes.{HasCause, Puts, one_more};
 
 use crate::faults::{SinkFault, SourceFault};
 
@@ -21,10 +21,13 @@ pub trait Source {
         ensures cause { HasCause (faults self.old) (faults self.new) result };
 }
 
-/// Where bytes go. `written` is what was written so far, where the sink tells it, and `faults` is
-/// a count of the faults so far, which never falls.
+/// Where bytes go. `written` is what was written so far, where the sink tells it; `writes` counts the
+/// calls of `write`, and stops at its last value; `faults` is a count of the faults so far, which never
+/// falls.
 pub trait Sink {
     ghost written: { Self → Option (List ℕ) };
+
+    ghost writes: { Self → ℕ };
 
     ghost faults: { Self → ℕ };
 
@@ -32,5 +35,6 @@ pub trait Sink {
     /// count rose.
     fn write(&mut self, bytes: &[u8]) -> Result<(), SinkFault>
         ensures bytes { Puts (written self.old) (written self.new) result bytes.now }
+        ensures counted { writes self.new ≡ one_more (writes self.old) }
         ensures cause { HasCause (faults self.old) (faults self.new) result };
 }

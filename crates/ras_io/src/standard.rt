@@ -1,8 +1,8 @@
 //! A source and a sink over std's readers and writers, as standard input and output.
-ghost use Rattle.std.specs.Prelude.{◌≡◌, ◌≤◌, [], ◌++◌, length, take, IfOk, OnOk, IsTrue, if◌then◌else◌};
+ghost use Rattle.std.specs.Prelude.{◌≡◌, ◌≤◌, [], ◌++◌, length, take, IfOk, OnOk, OnErr, IsTrue, if◌then◌else◌};
 ghost use Rattle.std.specs.Io.{ReadsAtMost};
 ghost use Rattle.std.specs.Io.KnownBytes.{ReadConsumes, Appends, Keeps};
-ghost use Rattle.ras_io.specs.Causes.{HasCause, Puts};
+ghost use Rattle.ras_io.specs.Causes.{HasCause, Puts, one_more};
 ghost use Rattle.ras_io.specs.Std.{written_to};
 
 use crate::faults::{NoMemory, SinkFault, SourceFault};
@@ -84,6 +84,7 @@ pub struct StdSink<W: Write + Drop> {
     to: W,
     gathered: Vec<u8>,
     sent: usize,
+    writes: u64,
     faults: u64,
 }
 
@@ -96,6 +97,7 @@ impl<W: Write + Drop> Model for StdSink<W> {
     ghost view = { λ s. record {
       out = W.contents s.to;
       waiting = drop s.sent s.gathered.items;
+      writes = s.writes;
       faults = s.faults;
     } };
 
@@ -104,16 +106,17 @@ impl<W: Write + Drop> Model for StdSink<W> {
 }
 
 impl<W: Write + Drop> StdSink<W> {
-    /// A sink with nothing waiting, whose count of faults is 0. `NoMemory` comes where no room was
+    /// A sink with nothing waiting, whose counts of writes and of faults are 0. `NoMemory` comes where no room was
     /// found for what it gathers.
     pub fn new(alloc: Global, to: W) -> Result<StdSink<W>, NoMemory>
-        ensures { IfOk result (λ s. s ≡ record { out = W.contents to; waiting = []; faults = 0 }) }
+        ensures { IfOk result (λ s. s ≡ record { out = W.contents to; waiting = []; writes = 0; faults = 0 }) }
     {
         let gathered = Vec::with_capacity(alloc, GATHERED).map_err(|_| NoMemory)?;
         Ok(StdSink {
             to,
             gathered,
             sent: 0,
+            writes: 0,
             faults: 0,
         })
     }
@@ -124,6 +127,8 @@ impl<W: Write + Drop> StdSink<W> {
         ensures bytes { Keeps (written_to self.old) (written_to self.new) }
         ensures empty { OnOk result (self.new.waiting ≡ []) }
         ensures cause { HasCause self.old.faults self.new.faults result }
+        ensures once { OnErr result (self.new.faults ≡ one_more self.old.faults) }
+        ensures writes { self.new.writes ≡ self.old.writes }
     {
         let (_, waiting) = self.gathered.as_slice().split_at(self.sent);
         let given = hand_out(&mut self.to, waiting);
@@ -162,6 +167,7 @@ impl<W: Write + Drop> StdSink<W> {
         requires { self.old.waiting ≡ [] }
         ensures bytes { Puts (written_to self.old) (written_to self.new) result bytes.now }
         ensures cause { HasCause self.old.faults self.new.faults result }
+        ensures writes { self.new.writes ≡ self.old.writes }
     {
         if send(&mut self.to, bytes) == bytes.len() {
             return Ok(());
@@ -241,9 +247,12 @@ fn hand_out<W: Write>(to: &mut W, bytes: &[u8]) -> Given
 impl<W: Write + Drop> Sink for StdSink<W> {
     ghost written = { written_to };
 
+    ghost writes = { λ s. s.writes };
+
     ghost faults = { λ s. s.faults };
 
     fn write(&mut self, bytes: &[u8]) -> Result<(), SinkFault> {
+        self.writes = self.writes.saturating_add(1);
         if self.gather(bytes) {
             return Ok(());
         }

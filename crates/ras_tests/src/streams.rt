@@ -6,7 +6,7 @@ use ras_io::{
     MemSink, MemSource, ReadAllError, Sink, SinkFault, Source, StdSink, StdSource, read_all,
 };
 use std::io;
-use std::io::{Cursor, Write};
+use std::io::{Cursor, Read, Write};
 use std::test::Fail;
 
 fn text(rt: &impl AllocGlobal, bytes: &[u8]) -> Result<Vec<u8>, std::alloc::AllocError> {
@@ -77,6 +77,8 @@ struct Partial {
 
 impl Sink for Partial {
     ghost written = { λ s. Some s.taken.items };
+
+    ghost writes = { λ s. s.writes };
 
     ghost faults = { λ s. s.faults };
 
@@ -187,5 +189,69 @@ fn passes_on_what_is_too_long_to_gather(rt: HostRuntime) -> Result<(), Fail> {
     assert_eq!(rt; sink.write(long.as_slice()), Ok(()));
     assert_eq!(rt; sink.write(b"y"), Ok(()));
     assert_eq!(rt; sink.flush(), Err(SinkFault));
+    Ok(())
+}
+
+// a reader whose first call a signal interrupts
+#[derive(Drop)]
+struct Interrupted {
+    calls: u32,
+}
+
+impl Read for Interrupted {
+    fn read(&mut self, buf: &mut [u8]) -> io::Result<usize> {
+        self.calls = self.calls.saturating_add(1);
+        if self.calls == 1 {
+            return Err(io::Error::from(io::ErrorKind::Interrupted));
+        }
+        if self.calls > 2 || buf.is_empty() {
+            return Ok(0);
+        }
+        buf[0] = b'x';
+        Ok(1)
+    }
+}
+
+#[test]
+fn reads_again_after_a_signal(rt: HostRuntime) -> Result<(), Fail> {
+    let mut source = StdSource::new(Interrupted { calls: 0 });
+    let bytes = read_all(rt.alloc(), &mut source, 80)?;
+    assert_eq!(rt; bytes.as_slice(), b"x".as_slice());
+    Ok(())
+}
+
+// a reader that fails for good, and tells how often it was asked
+#[derive(Drop)]
+struct Broken<'a> {
+    calls: &'a mut u32,
+}
+
+impl Read for Broken<'_> {
+    fn read(&mut self, _buf: &mut [u8]) -> io::Result<usize> {
+        *self.calls = self.calls.saturating_add(1);
+        Err(io::Error::from(io::ErrorKind::StorageFull))
+    }
+}
+
+#[test]
+fn asks_once_where_the_reader_fails(rt: HostRuntime) -> Result<(), Fail> {
+    let mut calls = 0;
+    let mut source = StdSource::new(Broken { calls: &mut calls });
+    assert!(rt;
+        matches!(
+            read_all(rt.alloc(), &mut source, 80),
+            Err(ReadAllError::ReadFault)
+        )
+    );
+    assert_eq!(rt; calls, 1);
+    Ok(())
+}
+
+#[test]
+fn reads_a_text_of_two_pieces(rt: HostRuntime) -> Result<(), Fail> {
+    let long = vec![in rt.alloc(); b'x'; 5000]?;
+    let mut source = MemSource::new(long, 4500, Vec::new(rt.alloc()));
+    let bytes = read_all(rt.alloc(), &mut source, 5000)?;
+    assert_eq!(rt; bytes.len(), 5000);
     Ok(())
 }

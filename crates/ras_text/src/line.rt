@@ -1,7 +1,7 @@
 //! Lines that go to a sink, each in one write.
 ghost use Rattle.std.specs.Prelude.{◌≡◌, ◌+◌, ◌≤◌, ◌++◌, [], ◌∷◌, length, decimal};
 ghost use Rattle.std.specs.Fmt.{signed_decimal};
-ghost use Rattle.ras_io.specs.Causes.{HasCause, Puts};
+ghost use Rattle.ras_io.specs.Causes.{HasCause, Puts, one_more};
 ghost use Rattle.ras_text.specs.Numbers.{hexadecimal};
 ghost use Rattle.ras_text.specs.Lines.{text_of, sink_of, Borrows, SameSink};
 
@@ -42,6 +42,7 @@ impl<'a, K: Sink> Line<'a, K> {
         ensures bytes { Puts (K.written (sink_of self.old)) (K.written (sink_of self.new)) result
             (text_of self.old ++ 10 ∷ []) }
         ensures cause { HasCause (K.faults (sink_of self.old)) (K.faults (sink_of self.new)) result }
+        ensures one_write { K.writes (sink_of self.new) ≡ one_more (K.writes (sink_of self.old)) }
         ensures same_reference { SameSink self.new self.old }
     {
         self.text.push(b'\n');
