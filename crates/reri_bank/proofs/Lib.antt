@@ -1,6 +1,6 @@
 pub mod Claimed
 pub mod Stands
 pub mod Signalled
-pub mod Summaries
+pub mod Placed
 pub mod Fresh
 mod WorkedBanks

@@ -9,7 +9,8 @@ use Rattle.reri_fields.specs.Banks.{BankEvent}
 use Rattle.reri_fields.specs.Banks.BankEvent.{Claims, Invalidates}
 use Rattle.reri_bank.specs.declared.access.Access.{Access}
 use Rattle.reri_bank.specs.declared.access.Access.TheVariants.{Read, Summary, SetRead, Invalidate}
-use Rattle.reri_bank.specs.Registers.{registers, summary, OneChanges, IsClaimed, IsInvalidated}
+use Rattle.reri_fields.specs.Words.{registers}
+use Rattle.reri_bank.specs.Registers.{summary, OneChanges, IsClaimed, IsInvalidated}
 
 -- a bank of so many records has what the access names
 abbrev pub IsThere : ℕ → Access → Type 0

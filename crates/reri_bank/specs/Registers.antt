@@ -10,10 +10,6 @@ use Rattle.reri_fields.specs.Fields.{StatusFields, status_fields, status_spare}
 abbrev pub origin_of : ℕ × ℕ → Origin
 origin_of first = record { control = first.0; count = first.1 }
 
--- the six registers, in their order
-abbrev pub registers : RecordCopy → List ℕ
-registers copy = copy.control ∷ copy.status ∷ copy.address ∷ copy.info ∷ copy.supplement ∷ copy.time ∷ []
-
 -- the status fields with read-in-progress set, where the record is valid
 unfoldable pub claimed : StatusFields → StatusFields
 claimed fields = if fields.valid then record fields { in_progress = true } else fields

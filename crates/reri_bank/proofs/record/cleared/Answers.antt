@@ -1,6 +1,6 @@
 use Rattle.std.proofs.Common.{refl, ap, ◌∙◌}
 use Rattle.reri_fields.specs.Fields.{StatusFields}
-use Rattle.reri_bank.proofs.Fresh.{zero_fields, zero_spare}
+use Rattle.reri_fields.proofs.Fresh.{zero_fields, zero_spare}
 use Rattle.reri_bank.proofs.record.cleared.Goals as goal
 
 pub returns : goal.returns
