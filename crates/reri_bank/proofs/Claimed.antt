@@ -2,8 +2,8 @@
 use Rattle.std.proofs.Common.{◌≡◌, ◌%◌, true, false, cond, ◌||◌, nat_lt, List, [], ◌∷◌, refl, inl, inr, sym, ap, ◌∙◌, subst}
 use Rattle.std.proofs.lemmas.Bool.{cases_Bool, MatchBool-at_true, MatchBool-at_false}
 use Rattle.reri_fields.specs.declared.report.RecordCopy.{RecordCopy}
-use Rattle.reri_fields.specs.Fields.{StatusFields, status_fields}
-use Rattle.reri_fields.specs.Records.{Event, Origin, Shows, Stands, is_any, shown, is_multiple, has_severity, counted, since, in_progress, number_in}
+use Rattle.reri_fields.specs.Fields.{StatusFields, status_fields, control_spare}
+use Rattle.reri_fields.specs.Records.{IsRecord, Event, Origin, Shows, Stands, is_any, shown, is_multiple, has_severity, counted, since, in_progress, number_in}
 use Rattle.reri_fields.specs.Records.Event.{Claimed, Invalidated}
 use Rattle.reri_log.proofs.Logging.{shows_moved}
 use Rattle.reri_log.proofs.Histories.{not_claimed}
@@ -113,4 +113,34 @@ invalidate_stands origin history old new k s =
       | inr off ↦
           let same = MatchBool-at_false (IsCleared old new) (new ≡ old) (s.in_progress ∙ off) k in
           subst (λ r. Stands origin (Invalidated ∷ history) r) (sym same) (stood_stands origin history old off s)
+    ]
+
+-- ---- What registers always are ----
+
+claimed_matched : (fields : StatusFields) → fields.valid ≡ (fields.ce || fields.ued || fields.uec) → (claimed fields).valid ≡ ((claimed fields).ce || (claimed fields).ued || (claimed fields).uec)
+unfolding claimed
+claimed_matched fields h =
+    elim fields.valid as (λ b. (cond b (record fields { in_progress = true }) fields).valid ≡ ((cond b (record fields { in_progress = true }) fields).ce || (cond b (record fields { in_progress = true }) fields).ued || (cond b (record fields { in_progress = true }) fields).uec)) [ true ↦ h | false ↦ h ]
+
+pub claim_kept : (old new : RecordCopy) → IsClaimed old new → IsRecord old → IsRecord new
+claim_kept old new k is =
+    record {
+      valid = subst (λ f. f.valid ≡ (f.ce || f.ued || f.uec)) (sym k.status) (claimed_matched (status_fields old.status) is.valid);
+      status_spare = k.others ∙ is.status_spare;
+      control_spare = ap (λ r. control_spare r.control) k.rest ∙ is.control_spare;
+    }
+
+cleared_kept : (old new : RecordCopy) → IsCleared old new → IsRecord old → IsRecord new
+cleared_kept old new k is =
+    record {
+      valid = ap (λ f. f.valid) k.status ∙ sym (ap (λ f. f.ce || f.ued || f.uec) k.status);
+      status_spare = k.others;
+      control_spare = ap control_spare k.control ∙ is.control_spare;
+    }
+
+pub invalidate_kept : (old new : RecordCopy) → IsInvalidated old new → IsRecord old → IsRecord new
+invalidate_kept old new k is =
+    elim (cases_Bool (status_fields old.status).in_progress) as (λ _. IsRecord new) [
+      | inl on ↦ cleared_kept old new (MatchBool-at_true (IsCleared old new) (new ≡ old) on k) is
+      | inr off ↦ subst IsRecord (sym (MatchBool-at_false (IsCleared old new) (new ≡ old) off k)) is
     ]

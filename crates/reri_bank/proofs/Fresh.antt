@@ -1,5 +1,5 @@
 -- Banks to which nothing has happened yet.
-use Rattle.std.proofs.Common.{◌≡◌, ◌≢◌, ℕ, zero, suc, ◌+◌, ◌<◌, ◌≤◌, false, List, [], ◌∷◌, ◌++◌, length, slice_get, Some, refl, inl, inr, sym, ap, ◌∙◌, subst, arith}
+use Rattle.std.proofs.Common.{◌≡◌, ◌≢◌, ℕ, zero, suc, ◌+◌, ◌≤◌, false, List, [], ◌∷◌, ◌++◌, length, slice_get, Some, refl, inl, inr, sym, ap, ◌∙◌, subst, arith}
 use Rattle.std.proofs.lemmas.Bool.{cases_eq}
 use Rattle.std.proofs.lemmas.List.{length_push}
 use Rattle.std.proofs.lemmas.Option.{same_Some, none-some}
@@ -23,11 +23,11 @@ nobody_asks origins = refl
 pub bank_of_none : BankStands [] [] (record { copies = []; asks = false })
 bank_of_none = record { count = refl; controls = λ at origin h. absurd (none-some origin h); each = λ at origin copy h k. absurd (none-some origin h); asking = sym (nobody_asks []) }
 
-get-push_same : {X : Type 0} (xs : List X) (y : X) → slice_get (xs ++ y ∷ []) (length xs) ≡ Some y
+pub get-push_same : {X : Type 0} (xs : List X) (y : X) → slice_get (xs ++ y ∷ []) (length xs) ≡ Some y
 get-push_same [] y = refl
 get-push_same (x ∷ xs) y = get-push_same xs y
 
-get-push_other : {X : Type 0} (xs : List X) (y z : X) (at : ℕ) → at ≢ length xs → slice_get (xs ++ y ∷ []) at ≡ Some z → slice_get xs at ≡ Some z
+pub get-push_other : {X : Type 0} (xs : List X) (y z : X) (at : ℕ) → at ≢ length xs → slice_get (xs ++ y ∷ []) at ≡ Some z → slice_get xs at ≡ Some z
 get-push_other [] y z zero ne h = absurd (ne refl)
 get-push_other [] y z (suc at) ne h = absurd (none-some z h)
 get-push_other (x ∷ xs) y z zero ne h = h

@@ -1,8 +1,8 @@
 -- The words of a bank: where its records stand among them, and what becomes of them once a record is written.
-use Rattle.std.proofs.Common.{◌≡◌, ℕ, zero, suc, ◌+◌, ◌*◌, ◌/◌, ◌%◌, ◌^◌, ◌<◌, ◌≤◌, Bool, true, false, cond, List, [], ◌∷◌, ◌++◌, length, set, slice_get, drop, Some, refl, inl, inr, sym, ap, ◌∙◌, subst, arith}
+use Rattle.std.proofs.Common.{◌≡◌, ◌≢◌, ℕ, zero, suc, ◌+◌, ◌*◌, ◌/◌, ◌%◌, ◌^◌, ◌<◌, ◌≤◌, true, false, cond, List, [], ◌∷◌, ◌++◌, length, set, slice_get, Some, None, refl, inl, inr, sym, ap, ◌∙◌, subst, arith}
 use Rattle.std.specs.Prelude.{slice_index}
 use Rattle.std.specs.List.{flat_map}
-use Rattle.std.proofs.lemmas.Bool.{cases_eq}
+use Rattle.std.proofs.lemmas.Bool.{cases_eq, eq-eqb, ne_eqb}
 use Rattle.std.proofs.lemmas.Option.{same_Some}
 use Rattle.std.proofs.lemmas.List.{length-set}
 use Rattle.std.proofs.lemmas.Nat.{shr-shr, mod-pow-add, pow-add}
@@ -12,7 +12,7 @@ use Rattle.reri_fields.specs.Records.{IsRecord}
 use Rattle.reri_fields.specs.Words.{registers, copy_at, with_record}
 use Rattle.reri_bank.specs.Registers.{summary}
 use Rattle.reri_bank.proofs.Stands.{get-set_same, get-set_other}
-use Rattle.reri_bank.specs.Layout.{words_of, records_in, copies_in, AreRecords, IsLaidOut}
+use Rattle.reri_bank.specs.Layout.{words_of, word_at, records_in, copies_in, AreRecords, IsLaidOut}
 
 -- ---- Words and records ----
 
@@ -203,3 +203,17 @@ recopied words later k copy now = ap copies_in now ∙ copies_back (set (copies_
 pub as_long : (words later : List ℕ) (k : ℕ) (copy : RecordCopy) → IsLaidOut words → later ≡ words_of (set (copies_in words) k copy) → length later ≡ length words
 as_long words later k copy laid now =
     ap length now ∙ length_words (set (copies_in words) k copy) ∙ ap (λ n. 1 + 6 * n) (length-set (copies_in words) k copy) ∙ sym (laid_length words laid)
+
+-- word 0 is the summary
+pub first_is : (words : List ℕ) → IsLaidOut words → slice_index words 0 ≡ summary (copies_in words)
+unfolding words_of
+first_is words laid = ap (λ xs. slice_index xs 0) laid.same
+
+-- the word at an offset that is a multiple of 8
+pub word_there : (words : List ℕ) (offset : ℕ) → IsLaidOut words → offset % 8 ≡ 0 → word_at (copies_in words) offset ≡ slice_get words (offset / 8)
+unfolding word_at
+word_there words offset laid h = rw (eq-eqb (offset % 8) 0 h) (ap (λ xs. slice_get xs (offset / 8)) (sym laid.same))
+
+pub word_nowhere : (copies : List RecordCopy) (offset : ℕ) → offset % 8 ≢ 0 → word_at copies offset ≡ None
+unfolding word_at
+word_nowhere copies offset h = rw (ne_eqb (offset % 8) 0 h) refl

@@ -1,16 +1,10 @@
 -- A record is signalled, told from its registers, exactly where its history says so.
-use Rattle.std.proofs.Common.{◌≡◌, ℕ, ◌+◌, ◌*◌, ◌<◌, ◌≤◌, Bool, true, false, nat_lt, List, length, slice_get, get_or, Option, Some, None, refl, inl, inr, sym, ap, ◌∙◌, arith}
-use Rattle.std.proofs.lemmas.Bool.{cases_Bool, cases_lt, cond-true}
+use Rattle.std.proofs.Common.{◌≡◌, ℕ, ◌<◌, ◌≤◌, Bool, false, nat_lt, List, length, slice_get, get_or, Option, Some, None, refl, inl, inr, sym, ◌∙◌, arith}
+use Rattle.std.proofs.lemmas.Bool.{cases_lt}
 use Rattle.std.proofs.lemmas.Option.{slice_get_past, slice_get-get_or}
-use Rattle.reri_fields.specs.declared.severity.Severity.{Severity}
-use Rattle.reri_fields.specs.declared.severity.Severity.TheVariants.{Ce, Ued, Uec}
 use Rattle.reri_fields.specs.declared.report.RecordCopy.{RecordCopy}
-use Rattle.reri_fields.specs.Fields.{StatusFields, control_fields, status_fields, severity_number, level_of, greatest}
-use Rattle.reri_fields.specs.Records.{Error, Event, Origin, Shows, Stands, severity_of, rank_of, greatest_of, is_any, shown, since, number_in}
-use Rattle.reri_fields.specs.Banks.{BankEvent, BankView, BankStands, events_of, level_after, is_signalled_after, copy_level, is_signalled, is_signalled_at, IsLeast}
-use Rattle.reri_log.specs.Update.{top, rank}
-use Rattle.reri_log.proofs.Errors.{shown_some, shown_none}
-use Rattle.reri_log.proofs.Entered.{top_some, rank_is}
+use Rattle.reri_fields.specs.Records.{Origin}
+use Rattle.reri_fields.specs.Banks.{BankEvent, BankView, BankStands, events_of, level_after, is_signalled_after, is_signalled, is_signalled_at, IsLeast}
 use Rattle.reri_log.proofs.Levels.{signal_is}
 use Rattle.reri_bank.proofs.Stands.{get_there}
 

@@ -3,7 +3,7 @@
 use Rattle.std.proofs.Common.{◌≡◌, ◌≢◌, ℕ, suc, zero, ◌<◌, ◌≤◌, Bool, true, false, ◌||◌, nat_lt, ◌==◌, cond, List, [], ◌∷◌, length, set, slice_get, Some, None, refl, inl, inr, sym, ap, ◌∙◌, subst, arith}
 use Rattle.std.proofs.lemmas.Bool.{cases_eq, eq-eqb, ne_eqb}
 use Rattle.std.proofs.lemmas.List.{length-set}
-use Rattle.std.proofs.lemmas.Option.{slice_get_within, slice_get_past, same_Some}
+use Rattle.std.proofs.lemmas.Option.{slice_get_within, slice_get_past, same_Some, none-some}
 use Rattle.reri_fields.specs.declared.report.RecordCopy.{RecordCopy}
 use Rattle.reri_fields.specs.declared.report.Logged.{Logged}
 use Rattle.reri_fields.specs.Records.{Error, Origin, AllBefore, Stands}
@@ -13,7 +13,7 @@ use Rattle.reri_fields.specs.Banks.{BankEvent, BankView, BankStands, AllLogsBefo
 use Rattle.reri_fields.specs.Banks.BankEvent.{Logs, Claims, Invalidates, ScanOver}
 use Rattle.reri_log.specs.Update.{Updates}
 use Rattle.reri_log.proofs.Logging.{logged_stands, logged_answer}
-use Rattle.reri_bank.specs.Registers.{IsClaimed, IsInvalidated}
+use Rattle.reri_bank.specs.Registers.{OneChanges, IsClaimed, IsInvalidated}
 use Rattle.reri_bank.proofs.Claimed.{claim_stands, invalidate_stands}
 
 -- ---- Elements of a list ----
@@ -22,6 +22,11 @@ pub get_there : {X : Type 0} (xs : List X) (at : ℕ) → at < length xs → (x 
 get_there [] at h = absurd (omega arith)
 get_there (x ∷ xs) zero h = (x, refl)
 get_there (x ∷ xs) (suc at) h = get_there xs at (omega arith)
+
+pub get_nowhere : {X : Type 0} (xs : List X) (at : ℕ) → slice_get xs at ≡ None → length xs ≤ at
+get_nowhere [] at h = omega arith
+get_nowhere (x ∷ xs) zero h = absurd (none-some x (sym h))
+get_nowhere (x ∷ xs) (suc at) h = omega (arith, get_nowhere xs at h)
 
 pub get-set_same : {X : Type 0} (xs : List X) (at : ℕ) (y : X) → at < length xs → slice_get (set xs at y) at ≡ Some y
 get-set_same [] at y h = absurd (omega arith)
@@ -177,3 +182,13 @@ module _ (origins : List Origin) (history : List BankEvent) (e : Error) (bank : 
   log_nowhere past =
       let nobody = raised_nowhere origins e history (slice_get_past origins e.report.rec (omega (arith, s.count))) in
       none_changes origins history (Logs e ∷ history) e.report.rec bank s past (λ k h. logs_elsewhere k e history h) (never (asks origins history) ∙ ap (λ n. asks origins history || nat_lt 0 n) (sym nobody) ∙ sym (asks_log origins e history))
+
+-- ---- The same, told from what changed ----
+
+pub logged_bank : (origins : List Origin) (history : List BankEvent) (e : Error) (bank later : BankView) (answer : Logged) → AllLogsBefore e.step history → BankStands origins history bank → OneChanges (λ old new. Updates old e.report new answer) e.report.rec bank.copies later.copies → later.asks ≡ (bank.asks || nat_lt 0 (level_in answer)) → BankStands origins (Logs e ∷ history) later
+logged_bank origins history e bank later answer early s one asking =
+    let is : record { copies = set bank.copies e.report.rec one.after; asks = bank.asks || nat_lt 0 (level_in answer) } ≡ later = λ i. record { copies = sym one.is i; asks = sym asking i } in
+    subst (BankStands origins (Logs e ∷ history)) is (log_keeps origins history e bank early s one.before one.after answer one.was one.changes)
+
+pub logged_here : (origins : List Origin) (history : List BankEvent) (e : Error) (bank later : BankView) (answer : Logged) (origin : Origin) → AllLogsBefore e.step history → BankStands origins history bank → OneChanges (λ old new. Updates old e.report new answer) e.report.rec bank.copies later.copies → slice_get origins e.report.rec ≡ Some origin → answer ≡ outcome origin (events_of e.report.rec history) e
+logged_here origins history e bank later answer origin early s one h = log_answer origins history e bank early s one.before one.after answer origin one.was one.changes h

@@ -76,11 +76,16 @@ impl Bank {
         if offset % 8 != 0 {
             return None;
         }
-        self.words.get((offset / 8) as usize).copied()
+        let at = (offset / 8) as usize;
+        if at >= self.words.len() {
+            return None;
+        }
+        Some(self.words[at])
     }
 
     /// The registers of a record, where the bank has it.
     fn find(&self, rec: u8) -> Option<RecordCopy>
+        ensures there { IsNone result ↔ ¬ (rec < length self.now.copies) }
         ensures value { result ≡ slice_get self.now.copies rec }
         ensures kept { IfSome result (λ copy. IsRecord copy) }
     {
@@ -169,6 +174,16 @@ impl Bank {
         Some(u64::from(cleared))
     }
 
+    /// Logs an error into the record that it names, which the bank has.
+    fn log_at(&mut self, report: &Report) -> Logged
+        requires priority { report.now.priority < 4 }
+        requires there { report.now.rec < length self.old.copies }
+        ensures records { OneChanges (λ old new. Updates old report.now new result) report.now.rec self.old.copies self.new.copies }
+        ensures asking { self.new.asks ≡ self.old.asks }
+    {
+        layout::log_into(&mut self.words, report.rec as usize, report)
+    }
+
     /// Logs an error into the record that it names, and sets the ask flag where it wrote the record at a level other than 0.
     /// None comes exactly where the bank has no record of that number, and then nothing changed.
     pub fn report(&mut self, report: &Report) -> Option<Logged>
@@ -187,11 +202,10 @@ impl Bank {
         ensures asking { IfSome result (λ answer. self.new.asks ≡ (self.old.asks || nat_lt 0 (level_in answer))) }
         ensures unchanged { IfNone result (self.new ≡ self.old) }
     {
-        let at = report.rec as usize;
-        if at >= self.count {
+        if report.rec as usize >= self.count {
             return None;
         }
-        let answer = layout::log_into(&mut self.words, at, report);
+        let answer = self.log_at(report);
         self.asks |= level(answer) > 0;
         Some(answer)
     }

@@ -1,11 +1,10 @@
 -- The registers of a record are determined by its history.
-use Rattle.std.proofs.Common.{◌≡◌, ℕ, zero, suc, cond, List, ◌+◌, ◌*◌, ◌/◌, ◌%◌, ◌^◌, ◌<◌, Bool, true, false, refl, inl, inr, sym, ap, ◌∙◌, arith}
+use Rattle.std.proofs.Common.{◌≡◌, ℕ, zero, suc, cond, List, ◌+◌, ◌*◌, ◌/◌, ◌%◌, ◌^◌, ◌<◌, refl, sym, ap, ◌∙◌, arith}
 use Rattle.std.proofs.lemmas.Nat.{shr-shr}
 use Rattle.std.proofs.Math.Nat.{div-add-mod, div-eq_of_lt}
-use Rattle.std.proofs.lemmas.Bool.{cases_Bool}
-use Rattle.std.specs.Prelude.{◌==◌, nat_lt}
+use Rattle.std.specs.Prelude.{◌==◌}
 use Rattle.reri_fields.specs.declared.report.RecordCopy.{RecordCopy}
-use Rattle.reri_fields.specs.Fields.{bits, flag, bit_at, StatusFields, status_fields, status_spare, status_word}
+use Rattle.reri_fields.specs.Fields.{bits, flag, bit_at, status_fields, status_spare, status_word}
 use Rattle.reri_fields.specs.Records.{Event, Origin, Stands, status_after, copy_after}
 
 -- what stands from one place up is the bits at that place and what stands above them

@@ -1,7 +1,7 @@
 -- What an error does to the list of errors that a record holds, and to a claim of the record; and what holds after any
 -- number of errors that came since a claim or a check.
-use Rattle.std.proofs.Common.{◌≡◌, ℕ, ◌<◌, ◌≤◌, Bool, true, false, not, ◌&&◌, ◌||◌, List, [], ◌∷◌, ◌++◌, Some, None, refl, inl, inr, ◌⊎◌, sym, ap, ◌∙◌, subst, arith}
-use Rattle.std.proofs.lemmas.Bool.{cases_Bool, cases_lt, true≢false, eq-eqb, ne_eqb}
+use Rattle.std.proofs.Common.{◌≡◌, ◌<◌, ◌≤◌, Bool, true, false, not, ◌&&◌, ◌||◌, List, [], ◌∷◌, ◌++◌, Some, refl, inl, inr, sym, ap, ◌∙◌, arith}
+use Rattle.std.proofs.lemmas.Bool.{cases_Bool, cases_lt, true≢false, eq-eqb}
 use Rattle.std.proofs.Math.Nat.{le-max_left, le-max_right}
 use Rattle.reri_fields.specs.Records.{Error, Event, Origin, AllBefore, AreInOrder, rank_of, greatest_of, is_any, shown, shown_rank, came_at, is_shown_after, is_logged, since, in_progress}
 use Rattle.reri_fields.specs.Records.Event.{Reported, Claimed, Invalidated}
