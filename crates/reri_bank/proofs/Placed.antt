@@ -34,7 +34,8 @@ unfolding words_of
 length_words copies = omega (arith, length_flat copies)
 
 -- the words of a bank with these records are laid out
-pub lay_out : (copies : List RecordCopy) (words : List ℕ) → 0 < length copies → length copies ≤ 63 → AreRecords copies → words ≡ words_of copies → IsLaidOut words
+pub lay_out : (copies : List RecordCopy) (words : List ℕ) → 0 < length copies → length copies ≤ 63 → AreRecords copies
+    → words ≡ words_of copies → IsLaidOut words
 lay_out copies words some few are is =
     let back : copies_in words ≡ copies = ap copies_in is ∙ copies_back copies in
     record {
@@ -62,7 +63,8 @@ read_next : (word : ℕ) (words : List ℕ) (at : ℕ) → copy_at (word ∷ wor
 unfolding copy_at
 read_next word words at = rw (next at 1, next at 2, next at 3, next at 4, next at 5) refl
 
-write_next : (word : ℕ) (words : List ℕ) (at : ℕ) (copy : RecordCopy) → with_record (word ∷ words) (suc at) copy ≡ word ∷ with_record words at copy
+write_next : (word : ℕ) (words : List ℕ) (at : ℕ) (copy : RecordCopy) → with_record (word ∷ words) (suc at) copy
+    ≡ word ∷ with_record words at copy
 unfolding with_record
 write_next word words at copy = rw (next at 1, next at 2, next at 3, next at 4, next at 5) refl
 
@@ -70,40 +72,52 @@ read_first : (word : ℕ) (copy : RecordCopy) (words : List ℕ) → copy_at (wo
 unfolding copy_at
 read_first word copy words = refl
 
-write_first : (word : ℕ) (old copy : RecordCopy) (words : List ℕ) → with_record (word ∷ registers old ++ words) 1 copy ≡ word ∷ registers copy ++ words
+write_first : (word : ℕ) (old copy : RecordCopy) (words : List ℕ) → with_record (word ∷ registers old ++ words) 1 copy
+    ≡ word ∷ registers copy ++ words
 unfolding with_record
 write_first word old copy words = refl
 
 -- past the first record, a place is one among the words from its last register on
-read_past : (word : ℕ) (first : RecordCopy) (words : List ℕ) (k : ℕ) → copy_at (word ∷ registers first ++ words) (place (suc k)) ≡ copy_at (first.time ∷ words) (place k)
+read_past : (word : ℕ) (first : RecordCopy) (words : List ℕ) (k : ℕ)
+    → copy_at (word ∷ registers first ++ words) (place (suc k)) ≡ copy_at (first.time ∷ words) (place k)
 read_past word first words k =
-    read_next word _ _ ∙ read_next first.control _ _ ∙ read_next first.status _ _ ∙ read_next first.address _ _ ∙ read_next first.info _ _ ∙ read_next first.supplement _ _
+    read_next word _ _ ∙ read_next first.control _ _ ∙ read_next first.status _ _ ∙ read_next first.address _ _
+    ∙ read_next first.info _ _ ∙ read_next first.supplement _ _
 
-write_past : (word : ℕ) (first copy : RecordCopy) (words : List ℕ) (k : ℕ) → with_record (word ∷ registers first ++ words) (place (suc k)) copy ≡ word ∷ first.control ∷ first.status ∷ first.address ∷ first.info ∷ first.supplement ∷ with_record (first.time ∷ words) (place k) copy
+write_past : (word : ℕ) (first copy : RecordCopy) (words : List ℕ) (k : ℕ)
+    → with_record (word ∷ registers first ++ words) (place (suc k)) copy ≡ word ∷ first.control ∷ first.status
+    ∷ first.address ∷ first.info ∷ first.supplement ∷ with_record (first.time ∷ words) (place k) copy
 write_past word first copy words k =
     write_next word _ _ copy
     ∙ ap (λ w. word ∷ w) (write_next first.control _ _ copy
     ∙ ap (λ w. first.control ∷ w) (write_next first.status _ _ copy
     ∙ ap (λ w. first.status ∷ w) (write_next first.address _ _ copy
-    ∙ ap (λ w. first.address ∷ w) (write_next first.info _ _ copy ∙ ap (λ w. first.info ∷ w) (write_next first.supplement _ _ copy)))))
+    ∙ ap (λ w. first.address ∷ w) (write_next first.info _ _ copy
+    ∙ ap (λ w. first.info ∷ w) (write_next first.supplement _ _ copy)))))
 
-read_at : (word : ℕ) (copies : List RecordCopy) (k : ℕ) → k < length copies → slice_get copies k ≡ Some (copy_at (word ∷ flat_map registers copies) (place k))
+read_at : (word : ℕ) (copies : List RecordCopy) (k : ℕ) → k < length copies
+    → slice_get copies k ≡ Some (copy_at (word ∷ flat_map registers copies) (place k))
 read_at word [] k h = absurd (omega arith)
 read_at word (first ∷ copies) zero h = ap (λ c. Some c) (sym (read_first word first (flat_map registers copies)))
 read_at word (first ∷ copies) (suc k) h =
-    read_at first.time copies k (omega arith) ∙ ap (λ c. Some c) (sym (read_past word first (flat_map registers copies) k))
+    read_at first.time copies k (omega arith)
+    ∙ ap (λ c. Some c) (sym (read_past word first (flat_map registers copies) k))
 
-write_at : (word : ℕ) (copies : List RecordCopy) (k : ℕ) (copy : RecordCopy) → k < length copies → with_record (word ∷ flat_map registers copies) (place k) copy ≡ word ∷ flat_map registers (set copies k copy)
+write_at : (word : ℕ) (copies : List RecordCopy) (k : ℕ) (copy : RecordCopy) → k < length copies
+    → with_record (word ∷ flat_map registers copies) (place k) copy ≡ word ∷ flat_map registers (set copies k copy)
 write_at word [] k copy h = absurd (omega arith)
 write_at word (first ∷ copies) zero copy h = write_first word first copy (flat_map registers copies)
 write_at word (first ∷ copies) (suc k) copy h =
     write_past word first copy (flat_map registers copies) k
-    ∙ ap (λ w. word ∷ first.control ∷ first.status ∷ first.address ∷ first.info ∷ first.supplement ∷ w) (write_at first.time copies k copy (omega arith))
+    ∙ ap (λ w. word ∷ first.control ∷ first.status ∷ first.address ∷ first.info ∷ first.supplement ∷ w)
+    (write_at first.time copies k copy (omega arith))
 
-pub read_is : (copies : List RecordCopy) (words : List ℕ) (k at : ℕ) → words ≡ words_of copies → k < length copies → at ≡ 1 + 6 * k → slice_get copies k ≡ Some (copy_at words at)
+pub read_is : (copies : List RecordCopy) (words : List ℕ) (k at : ℕ) → words ≡ words_of copies → k < length copies
+    → at ≡ 1 + 6 * k → slice_get copies k ≡ Some (copy_at words at)
 unfolding words_of
 read_is copies words k at is h here =
-    read_at (summary copies) copies k h ∙ ap (λ w. Some (copy_at w (place k))) (sym is) ∙ ap (λ n. Some (copy_at words n)) (sym (here ∙ place_is k))
+    read_at (summary copies) copies k h ∙ ap (λ w. Some (copy_at w (place k))) (sym is)
+    ∙ ap (λ n. Some (copy_at words n)) (sym (here ∙ place_is k))
 
 -- ---- The summary ----
 
@@ -112,7 +126,8 @@ abbrev pub bit : RecordCopy → ℕ
 bit copy = cond (status_fields copy.status).valid 1 0
 
 bit_small : (copy : RecordCopy) → bit copy ≤ 1
-bit_small copy = elim (status_fields copy.status).valid as (λ b. cond b 1 0 ≤ 1) [ true ↦ omega arith | false ↦ omega arith ]
+bit_small copy =
+    elim (status_fields copy.status).valid as (λ b. cond b 1 0 ≤ 1) [ true ↦ omega arith | false ↦ omega arith ]
 
 summary_more : (copy : RecordCopy) (copies : List RecordCopy) → summary (copy ∷ copies) ≡ bit copy + 2 * summary copies
 unfolding summary
@@ -136,8 +151,10 @@ set_further : (b s k v : ℕ) → b ≤ 1 → with_bits (b + 2 * s) (k + 1) 1 v 
 unfolding with_bits
 set_further b s k v h =
     let n : ℕ = b + 2 * s in
-    let above : n / 2 ^ (k + 1 + 1) ≡ s / 2 ^ (k + 1) = ap (λ m. n / 2 ^ m) (omega arith) ∙ sym (shr-shr n 1 (k + 1)) ∙ ap (λ m. m / 2 ^ (k + 1)) (half b s h) in
-    let below : n % 2 ^ (k + 1) ≡ s % 2 ^ k * 2 + b = mod-pow-add n k 1 ∙ ap (λ m. m % 2 ^ k * 2 + n % 2) (half b s h) ∙ ap (λ m. s % 2 ^ k * 2 + m) (odd b s h) in
+    let above : n / 2 ^ (k + 1 + 1) ≡ s / 2 ^ (k + 1) = ap (λ m. n / 2 ^ m) (omega arith) ∙ sym (shr-shr n 1 (k + 1))
+    ∙ ap (λ m. m / 2 ^ (k + 1)) (half b s h) in
+    let below : n % 2 ^ (k + 1) ≡ s % 2 ^ k * 2 + b = mod-pow-add n k 1 ∙ ap (λ m. m % 2 ^ k * 2 + n % 2) (half b s h)
+    ∙ ap (λ m. s % 2 ^ k * 2 + m) (odd b s h) in
     let wide : 2 ^ (k + 1 + 1) ≡ 2 * 2 ^ (k + 1) = omega (arith, pow-add 2 (k + 1) 1) in
     let narrow : 2 ^ (k + 1) ≡ 2 * 2 ^ k = omega (arith, pow-add 2 k 1) in
     ap (λ m. m * 2 ^ (k + 1 + 1) + v * 2 ^ (k + 1) + n % 2 ^ (k + 1)) above
@@ -147,10 +164,12 @@ set_further b s k v h =
     ∙ twice b (s / 2 ^ (k + 1)) (2 ^ (k + 1)) v (2 ^ k) (s % 2 ^ k)
 
 -- the summary once a record has changed
-pub summary_set : (copies : List RecordCopy) (k : ℕ) (copy : RecordCopy) → k < length copies → with_bits (summary copies) k 1 (cond (status_fields copy.status).valid 1 0) ≡ summary (set copies k copy)
+pub summary_set : (copies : List RecordCopy) (k : ℕ) (copy : RecordCopy) → k < length copies
+    → with_bits (summary copies) k 1 (cond (status_fields copy.status).valid 1 0) ≡ summary (set copies k copy)
 summary_set [] k copy h = absurd (omega arith)
 summary_set (first ∷ copies) zero copy h =
-    ap (λ n. with_bits n 0 1 (bit copy)) (summary_more first copies) ∙ set_first (bit first) (summary copies) (bit copy) (bit_small first) ∙ sym (summary_more copy copies)
+    ap (λ n. with_bits n 0 1 (bit copy)) (summary_more first copies)
+    ∙ set_first (bit first) (summary copies) (bit copy) (bit_small first) ∙ sym (summary_more copy copies)
 summary_set (first ∷ copies) (suc k) copy h =
     let next : suc k ≡ k + 1 = omega arith in
     ap (λ n. with_bits n (suc k) 1 (bit copy)) (summary_more first copies)
@@ -161,17 +180,25 @@ summary_set (first ∷ copies) (suc k) copy h =
 
 -- ---- One record is written ----
 
-pub write_is : (copies : List RecordCopy) (words : List ℕ) (k at : ℕ) (copy : RecordCopy) → words ≡ words_of copies → k < length copies → at ≡ 1 + 6 * k → with_record words at copy ≡ summary copies ∷ flat_map registers (set copies k copy)
+pub write_is : (copies : List RecordCopy) (words : List ℕ) (k at : ℕ) (copy : RecordCopy) → words ≡ words_of copies
+    → k < length copies → at ≡ 1 + 6 * k → with_record words at copy ≡ summary copies
+    ∷ flat_map registers (set copies k copy)
 unfolding words_of
 write_is copies words k at copy is h here =
-    ap (λ w. with_record w at copy) is ∙ ap (λ n. with_record (summary copies ∷ flat_map registers copies) n copy) (here ∙ place_is k) ∙ write_at (summary copies) copies k copy h
+    ap (λ w. with_record w at copy) is ∙ ap (λ n. with_record (summary copies ∷ flat_map registers copies) n copy)
+    (here ∙ place_is k) ∙ write_at (summary copies) copies k copy h
 
 -- a record and its bit in the summary are written
-pub put_is : (copies : List RecordCopy) (words : List ℕ) (k at : ℕ) (copy : RecordCopy) (bit : ℕ) → words ≡ words_of copies → k < length copies → at ≡ 1 + 6 * k → bit ≡ with_bits (slice_index (with_record words at copy) 0) k 1 (cond (status_fields copy.status).valid 1 0) → set (with_record words at copy) 0 bit ≡ words_of (set copies k copy)
+pub put_is : (copies : List RecordCopy) (words : List ℕ) (k at : ℕ) (copy : RecordCopy) (bit : ℕ)
+    → words ≡ words_of copies → k < length copies → at ≡ 1 + 6 * k
+    → bit ≡ with_bits (slice_index (with_record words at copy) 0) k 1 (cond (status_fields copy.status).valid 1 0)
+    → set (with_record words at copy) 0 bit ≡ words_of (set copies k copy)
 unfolding words_of
 put_is copies words k at copy bit is h here told =
     let written = write_is copies words k at copy is h here in
-    let first : bit ≡ summary (set copies k copy) = told ∙ ap (λ w. with_bits (slice_index w 0) k 1 (cond (status_fields copy.status).valid 1 0)) written ∙ summary_set copies k copy h in
+    let first : bit ≡ summary (set copies k copy) = told
+    ∙ ap (λ w. with_bits (slice_index w 0) k 1 (cond (status_fields copy.status).valid 1 0)) written
+    ∙ summary_set copies k copy h in
     ap (λ w. set w 0 bit) written ∙ ap (λ n. n ∷ flat_map registers (set copies k copy)) first
 
 -- ---- What a layout gives ----
@@ -183,26 +210,35 @@ pub laid_room : (words : List ℕ) (k : ℕ) → IsLaidOut words → k < length 
 laid_room words k laid h = omega (arith, laid_length words laid)
 
 -- a record that is written leaves each what registers always are
-records_set : (copies : List RecordCopy) (k : ℕ) (copy : RecordCopy) → k < length copies → AreRecords copies → IsRecord copy → AreRecords (set copies k copy)
+records_set : (copies : List RecordCopy) (k : ℕ) (copy : RecordCopy) → k < length copies → AreRecords copies
+    → IsRecord copy → AreRecords (set copies k copy)
 records_set copies k copy h are is =
     λ at other there.
     elim (cases_eq at k) as (λ _. IsRecord other) [
-      | inl here ↦ subst IsRecord (sym (same_Some other copy (sym there ∙ ap (λ i. slice_get (set copies k copy) i) here ∙ get-set_same copies k copy h))) is
+      | inl here ↦
+          subst IsRecord
+          (sym (same_Some other copy (sym there ∙ ap (λ i. slice_get (set copies k copy) i) here
+          ∙ get-set_same copies k copy h))) is
       | inr elsewhere ↦ are at other (sym (get-set_other copies k at copy elsewhere) ∙ there)
     ]
 
-pub relaid : (words later : List ℕ) (k : ℕ) (copy : RecordCopy) → IsLaidOut words → k < length (copies_in words) → IsRecord copy → later ≡ words_of (set (copies_in words) k copy) → IsLaidOut later
+pub relaid : (words later : List ℕ) (k : ℕ) (copy : RecordCopy) → IsLaidOut words → k < length (copies_in words)
+    → IsRecord copy → later ≡ words_of (set (copies_in words) k copy) → IsLaidOut later
 relaid words later k copy laid h is now =
     let copies = copies_in words in
     let many = length-set copies k copy in
-    lay_out (set copies k copy) later (omega (arith, many, laid.some)) (omega (arith, many, laid.few)) (records_set copies k copy h laid.records is) now
+    lay_out (set copies k copy) later (omega (arith, many, laid.some)) (omega (arith, many, laid.few))
+    (records_set copies k copy h laid.records is) now
 
-pub recopied : (words later : List ℕ) (k : ℕ) (copy : RecordCopy) → later ≡ words_of (set (copies_in words) k copy) → copies_in later ≡ set (copies_in words) k copy
+pub recopied : (words later : List ℕ) (k : ℕ) (copy : RecordCopy) → later ≡ words_of (set (copies_in words) k copy)
+    → copies_in later ≡ set (copies_in words) k copy
 recopied words later k copy now = ap copies_in now ∙ copies_back (set (copies_in words) k copy)
 
-pub as_long : (words later : List ℕ) (k : ℕ) (copy : RecordCopy) → IsLaidOut words → later ≡ words_of (set (copies_in words) k copy) → length later ≡ length words
+pub as_long : (words later : List ℕ) (k : ℕ) (copy : RecordCopy) → IsLaidOut words
+    → later ≡ words_of (set (copies_in words) k copy) → length later ≡ length words
 as_long words later k copy laid now =
-    ap length now ∙ length_words (set (copies_in words) k copy) ∙ ap (λ n. 1 + 6 * n) (length-set (copies_in words) k copy) ∙ sym (laid_length words laid)
+    ap length now ∙ length_words (set (copies_in words) k copy)
+    ∙ ap (λ n. 1 + 6 * n) (length-set (copies_in words) k copy) ∙ sym (laid_length words laid)
 
 -- word 0 is the summary
 pub first_is : (words : List ℕ) → IsLaidOut words → slice_index words 0 ≡ summary (copies_in words)
@@ -210,7 +246,8 @@ unfolding words_of
 first_is words laid = ap (λ xs. slice_index xs 0) laid.same
 
 -- the word at an offset that is a multiple of 8
-pub word_there : (words : List ℕ) (offset : ℕ) → IsLaidOut words → offset % 8 ≡ 0 → word_at (copies_in words) offset ≡ slice_get words (offset / 8)
+pub word_there : (words : List ℕ) (offset : ℕ) → IsLaidOut words → offset % 8 ≡ 0 → word_at (copies_in words) offset
+    ≡ slice_get words (offset / 8)
 unfolding word_at
 word_there words offset laid h = rw (eq-eqb (offset % 8) 0 h) (ap (λ xs. slice_get xs (offset / 8)) (sym laid.same))
 

@@ -19,7 +19,15 @@ word_at copies offset = if offset % 8 == 0 then slice_get (words_of copies) (off
 -- the records that stand in words, six words each
 unfoldable pub records_in : List ℕ → List RecordCopy
 records_in (control ∷ status ∷ address ∷ info ∷ supplement ∷ time ∷ words) =
-    record { control = control; status = status; address = address; info = info; supplement = supplement; time = time } ∷ records_in words
+    record {
+      control = control;
+      status = status;
+      address = address;
+      info = info;
+      supplement = supplement;
+      time =
+          time;
+    } ∷ records_in words
 records_in _ = []
 
 -- the records of a bank with these words

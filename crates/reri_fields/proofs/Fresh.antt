@@ -4,7 +4,20 @@ use Rattle.std.proofs.lemmas.Bool.{le-ltb}
 use Rattle.reri_fields.specs.Fields.{StatusFields, status_fields, status_spare, control_spare, flag, bits}
 use Rattle.reri_fields.specs.Records.{Stands, IsRecord, is_any, shown, is_multiple, has_severity, number_in, since, in_progress, counted}
 
-pub zero_fields : status_fields 0 ≡ record { valid = false; ce = false; ued = false; uec = false; priority = 0; multiple = false; in_progress = false; overflow = false; code = 0; count = 0 }
+pub zero_fields : status_fields 0
+    ≡ record {
+      valid = false;
+      ce = false;
+      ued = false;
+      uec = false;
+      priority = 0;
+      multiple = false;
+      in_progress =
+          false;
+      overflow = false;
+      code = 0;
+      count = 0;
+    }
 unfolding status_fields flag bits
 zero_fields = refl
 
@@ -13,7 +26,10 @@ unfolding status_spare bits
 zero_spare = refl
 
 -- a record whose status has nothing but a count stands for the history in which nothing happened
-pub fresh_stands : (control count word : ℕ) → count < 65536 → status_fields word ≡ record (status_fields 0) { count = count } → status_spare word ≡ status_spare 0 → Stands (record { control = control; count = count }) [] (record { control = control; status = word; address = 0; info = 0; supplement = 0; time = 0 })
+pub fresh_stands : (control count word : ℕ) → count < 65536
+    → status_fields word ≡ record (status_fields 0) { count = count } → status_spare word ≡ status_spare 0
+    → Stands (record { control = control; count = count }) []
+    (record { control = control; status = word; address = 0; info = 0; supplement = 0; time = 0 })
 unfolding since in_progress counted is_any has_severity is_multiple shown number_in
 fresh_stands control count word small h spare =
     let put : StatusFields → StatusFields = λ f. record f { count = count } in
@@ -39,7 +55,9 @@ fresh_stands control count word small h spare =
       others = spare ∙ zero_spare;
     }
 
-pub fresh_is_record : (control count word : ℕ) → status_fields word ≡ record (status_fields 0) { count = count } → status_spare word ≡ status_spare 0 → control_spare control ≡ 0 → IsRecord (record { control = control; status = word; address = 0; info = 0; supplement = 0; time = 0 })
+pub fresh_is_record : (control count word : ℕ) → status_fields word ≡ record (status_fields 0) { count = count }
+    → status_spare word ≡ status_spare 0 → control_spare control ≡ 0
+    → IsRecord (record { control = control; status = word; address = 0; info = 0; supplement = 0; time = 0 })
 fresh_is_record control count word h spare clean =
     let put : StatusFields → StatusFields = λ f. record f { count = count } in
     let fields = h ∙ ap put zero_fields in

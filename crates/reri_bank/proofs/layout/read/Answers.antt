@@ -7,7 +7,8 @@ use Rattle.reri_bank.proofs.layout.read.Goals.{After-record_at}
 
 is_there : (c : After-record_at) → slice_get (copies_in c.args.words.now) c.args.rec ≡ Some c.record_at.result
 is_there c =
-    read_is (copies_in c.args.words.now) c.args.words.now c.args.rec c.place.result c.requires.laid.same c.requires.there c.place.ensures
+    read_is (copies_in c.args.words.now) c.args.words.now c.args.rec c.place.result c.requires.laid.same
+    c.requires.there c.place.ensures
     ∙ ap (λ copy. Some copy) (sym c.record_at.ensures)
 
 pub returns-clause-value : goal.returns-clause-value

@@ -6,5 +6,11 @@ use Rattle.reri_bank.proofs.bank.Bank.copy_of.Goals as goal
 
 pub read-requires-clause-room : goal.read-requires-clause-room
 read-requires-clause-room c =
-    let there : c.args.rec < length (copies_in c.self.inside.words.items) = subst (λ v. c.args.rec < length v.copies) (sym c.self.view_is) c.requires in
-    omega (arith, laid_room c.self.inside.words.items c.args.rec c.self.invariant.0 there, ap length c.deref.ensures.value)
+    let there : c.args.rec < length (copies_in c.self.inside.words.items) = subst (λ v. c.args.rec < length v.copies)
+    (sym c.self.view_is) c.requires in
+    omega (
+      arith,
+      laid_room c.self.inside.words.items c.args.rec c.self.invariant.0 there,
+      ap length
+          c.deref.ensures.value,
+    )

@@ -7,4 +7,9 @@ use Rattle.reri_bank.proofs.bank.Bank.find.Goals as goal
 pub read-requires-clause-room : goal.read-requires-clause-room
 read-requires-clause-room c =
     let there : c.args.rec < length (copies_in c.self.inside.words.items) = omega (arith, c.self.invariant.1) in
-    omega (arith, laid_room c.self.inside.words.items c.args.rec c.self.invariant.0 there, ap length c.deref.ensures.value)
+    omega (
+      arith,
+      laid_room c.self.inside.words.items c.args.rec c.self.invariant.0 there,
+      ap length
+          c.deref.ensures.value,
+    )

@@ -17,4 +17,6 @@ put-requires-clause-there c = slice_get_within _ c.args.rec c.in_ok-copy.copy (s
 pub returns-clause-stands : goal.returns-clause-stands
 returns-clause-stands c =
     λ origins history s.
-    subst (BankStands origins (Invalidates c.args.rec ∷ history)) (sym c.put.ensures) (invalidate_keeps origins history c.args.rec c.in_ok-copy.copy c.invalidate-cleared.new.rec c.args.self.now s (sym c.in_ok-copy.ensures.value) c.invalidate-cleared.ensures.change)
+    subst (BankStands origins (Invalidates c.args.rec ∷ history)) (sym c.put.ensures)
+    (invalidate_keeps origins history c.args.rec c.in_ok-copy.copy c.invalidate-cleared.new.rec c.args.self.now s
+    (sym c.in_ok-copy.ensures.value) c.invalidate-cleared.ensures.change)

@@ -18,21 +18,32 @@ pub loop-control-preserved : goal.loop-control-preserved
 loop-control-preserved c =
     let start = c.args.start.now in
     let k = c.loop-control.control-index in
-    let longer : c.extend_from_slice.new.self.items ≡ c.loop-control.words.items ++ registers c.fresh.result = search rules in
-    let clean = clean_control _ (All-get_or (λ first. first.0 ≤ 255) start k (0, 0) c.loop-control-test.true c.requires.controls) in
-    subst (λ origins. Started origins c.extend_from_slice.new.self.items) (sym (map_more origin_of start k (0, 0) c.loop-control-test.true))
-    (subst (λ words. Started (map origin_of (take k start) ++ origin_of (get_or start k (0, 0)) ∷ []) words) (sym longer)
-    (started_more (map origin_of (take k start)) (origin_of (get_or start k (0, 0))) c.loop-control.words.items c.fresh.result c.loop-control.invariant clean c.fresh.ensures.stands (c.fresh.ensures.clean clean)))
+    let longer : c.extend_from_slice.new.self.items ≡ c.loop-control.words.items
+    ++ registers c.fresh.result = search rules in
+    let clean =
+    clean_control _
+    (All-get_or (λ first. first.0 ≤ 255) start k (0, 0) c.loop-control-test.true c.requires.controls) in
+    subst (λ origins. Started origins c.extend_from_slice.new.self.items)
+    (sym (map_more origin_of start k (0, 0) c.loop-control-test.true))
+    (subst (λ words. Started (map origin_of (take k start) ++ origin_of (get_or start k (0, 0)) ∷ []) words)
+    (sym longer)
+    (started_more (map origin_of (take k start)) (origin_of (get_or start k (0, 0))) c.loop-control.words.items
+    c.fresh.result c.loop-control.invariant clean c.fresh.ensures.stands (c.fresh.ensures.clean clean)))
 
 -- the words of all records
 whole : (c : After-loop-control) → Started (map origin_of c.args.start.now) c.loop-control.words.items
 whole c =
-    subst (λ start. Started (map origin_of start) c.loop-control.words.items) (take_all c.loop-control.control-index c.args.start.now (omega arith)) c.loop-control.invariant
+    subst (λ start. Started (map origin_of start) c.loop-control.words.items)
+    (take_all c.loop-control.control-index c.args.start.now (omega arith)) c.loop-control.invariant
 
 pub invariant_of-result : goal.invariant_of-result
 invariant_of-result c =
-    let many = length-map c.args.start.now origin_of in
-    (started_laid (map origin_of c.args.start.now) c.loop-control.words.items (omega (arith, many, c.requires.any)) (omega (arith, many, c.requires.room)) (whole c), sym (started_many (map origin_of c.args.start.now) c.loop-control.words.items (whole c) ∙ many))
+    let many = length-map c.args.start.now origin_of in (
+      started_laid (map origin_of c.args.start.now) c.loop-control.words.items (omega (arith, many, c.requires.any))
+          (omega (arith, many, c.requires.room)) (whole c),
+      sym
+          (started_many (map origin_of c.args.start.now) c.loop-control.words.items (whole c) ∙ many),
+    )
 
 pub returns : goal.returns
 returns c = started_stands (map origin_of c.args.start.now) c.loop-control.words.items (whole c)

@@ -11,7 +11,12 @@ use Rattle.reri_bank.proofs.bank.Bank.next_signalled.Goals.{After-is_signalled, 
 pub read-requires-clause-room : goal.read-requires-clause-room
 read-requires-clause-room c =
     let there : c.loop-rec.rec < length (copies_in c.self.inside.words.items) = omega (arith, c.self.invariant.1) in
-    omega (arith, laid_room c.self.inside.words.items c.loop-rec.rec c.self.invariant.0 there, ap length c.deref.ensures.value)
+    omega (
+      arith,
+      laid_room c.self.inside.words.items c.loop-rec.rec c.self.invariant.0 there,
+      ap length
+          c.deref.ensures.value,
+    )
 
 -- whether the record that the loop has come to is signalled
 here : (c : After-is_signalled) → is_signalled_at c.args.self.now.copies c.loop-rec.rec ≡ c.is_signalled.result
@@ -30,15 +35,18 @@ returns-then-is_signalled-clause-least c = found c
 pub returns-then-is_signalled-clause-stands : goal.returns-then-is_signalled-clause-stands
 returns-then-is_signalled-clause-stands c =
     λ origins history s.
-    least_same (is_signalled_at c.args.self.now.copies) (is_signalled_after origins history) (Some c.loop-rec.rec) (signalled_is origins history c.args.self.now s) (found c)
+    least_same (is_signalled_at c.args.self.now.copies) (is_signalled_after origins history) (Some c.loop-rec.rec)
+    (signalled_is origins history c.args.self.now s) (found c)
 
 pub loop-rec-preserved : goal.loop-rec-preserved
 loop-rec-preserved c =
-    below_more (λ at. is_signalled_at c.args.self.now.copies at ≡ false) c.loop-rec.rec c.loop-rec.invariant (here c.before ∙ c.if-is_signalled.false)
+    below_more (λ at. is_signalled_at c.args.self.now.copies at ≡ false) c.loop-rec.rec c.loop-rec.invariant
+    (here c.before ∙ c.if-is_signalled.false)
 
 none : (c : After-loop-rec) → IsLeast (is_signalled_at c.args.self.now.copies) None
 none c =
-    let many : c.self.inside.count ≡ length c.args.self.now.copies = c.self.invariant.1 ∙ ap (λ v. length v.copies) c.self.view_is in
+    let many : c.self.inside.count ≡ length c.args.self.now.copies = c.self.invariant.1
+    ∙ ap (λ v. length v.copies) c.self.view_is in
     λ at.
     elim (cases_lt at c.loop-rec.rec) as (λ _. is_signalled_at c.args.self.now.copies at ≡ false) [
       | inl before ↦ c.loop-rec.invariant at before
@@ -51,4 +59,5 @@ returns-clause-least c = none c
 pub returns-clause-stands : goal.returns-clause-stands
 returns-clause-stands c =
     λ origins history s.
-    least_same (is_signalled_at c.args.self.now.copies) (is_signalled_after origins history) None (signalled_is origins history c.args.self.now s) (none c)
+    least_same (is_signalled_at c.args.self.now.copies) (is_signalled_after origins history) None
+    (signalled_is origins history c.args.self.now s) (none c)

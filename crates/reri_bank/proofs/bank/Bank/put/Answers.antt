@@ -6,5 +6,11 @@ use Rattle.reri_bank.proofs.bank.Bank.put.Goals as goal
 
 pub write-requires-clause-room : goal.write-requires-clause-room
 write-requires-clause-room c =
-    let there : c.args.rec < length (copies_in c.self.inside.words.items) = subst (λ v. c.args.rec < length v.copies) (sym c.self.view_is) c.requires.there in
-    omega (arith, laid_room c.self.inside.words.items c.args.rec c.self.invariant.0 there, ap length c.deref_mut.ensures.value)
+    let there : c.args.rec < length (copies_in c.self.inside.words.items) = subst (λ v. c.args.rec < length v.copies)
+    (sym c.self.view_is) c.requires.there in
+    omega (
+      arith,
+      laid_room c.self.inside.words.items c.args.rec c.self.invariant.0 there,
+      ap length
+          c.deref_mut.ensures.value,
+    )

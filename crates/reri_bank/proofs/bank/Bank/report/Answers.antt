@@ -26,12 +26,18 @@ pub returns-clause-stands : goal.returns-clause-stands
 returns-clause-stands c =
     λ origins history step early s.
     let e : Error = record { step = step; report = c.args.report.now } in
-    let one = subst (λ v. OneChanges (λ old new. Updates old c.args.report.now new c.log_at-answer.result) c.args.report.now.rec c.args.self.now.copies v.copies) (sym c.self-2.view_is) c.log_at-answer.ensures.records in
-    let asking = ap (λ v. v.asks || nat_lt 0 c.level.result) c.self-2.view_is ∙ ap (λ b. b || nat_lt 0 c.level.result) c.log_at-answer.ensures.asking ∙ ap (λ n. c.args.self.now.asks || nat_lt 0 n) c.level.ensures in
+    let one =
+    subst (λ v. OneChanges (λ old new. Updates old c.args.report.now new c.log_at-answer.result)
+    c.args.report.now.rec c.args.self.now.copies v.copies) (sym c.self-2.view_is) c.log_at-answer.ensures.records in
+    let asking = ap (λ v. v.asks || nat_lt 0 c.level.result) c.self-2.view_is
+    ∙ ap (λ b. b || nat_lt 0 c.level.result) c.log_at-answer.ensures.asking
+    ∙ ap (λ n. c.args.self.now.asks || nat_lt 0 n) c.level.ensures in
     logged_bank origins history e c.args.self.now _ c.log_at-answer.result early s one asking
 
 pub returns-clause-answer : goal.returns-clause-answer
 returns-clause-answer c =
     λ origins history step origin early s h.
     let e : Error = record { step = step; report = c.args.report.now } in
-    ap (λ x. Some x) (logged_here origins history e c.args.self.now c.log_at-answer.new.self c.log_at-answer.result origin early s c.log_at-answer.ensures.records h)
+    ap (λ x. Some x)
+    (logged_here origins history e c.args.self.now c.log_at-answer.new.self c.log_at-answer.result origin early s
+    c.log_at-answer.ensures.records h)

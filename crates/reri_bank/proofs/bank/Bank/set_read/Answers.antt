@@ -22,9 +22,13 @@ put-requires-clause-kept c = claim_kept c.in_ok-copy.copy c.claim.new.rec c.clai
 pub returns-clause-value : goal.returns-clause-value
 returns-clause-value c =
     ap (λ v. option_map (λ copy. copy.status) (slice_get v.copies c.args.rec)) c.put.ensures
-    ∙ ap (option_map (λ copy. copy.status)) (get-set_same c.args.self.now.copies c.args.rec c.claim.new.rec (slice_get_within _ c.args.rec c.in_ok-copy.copy (sym c.in_ok-copy.ensures.value)))
+    ∙ ap (option_map (λ copy. copy.status))
+    (get-set_same c.args.self.now.copies c.args.rec c.claim.new.rec
+    (slice_get_within _ c.args.rec c.in_ok-copy.copy (sym c.in_ok-copy.ensures.value)))
 
 pub returns-clause-stands : goal.returns-clause-stands
 returns-clause-stands c =
     λ origins history s.
-    subst (BankStands origins (Claims c.args.rec ∷ history)) (sym c.put.ensures) (claim_keeps origins history c.args.rec c.in_ok-copy.copy c.claim.new.rec c.args.self.now s (sym c.in_ok-copy.ensures.value) c.claim.ensures)
+    subst (BankStands origins (Claims c.args.rec ∷ history)) (sym c.put.ensures)
+    (claim_keeps origins history c.args.rec c.in_ok-copy.copy c.claim.new.rec c.args.self.now s
+    (sym c.in_ok-copy.ensures.value) c.claim.ensures)
