@@ -139,7 +139,7 @@ torn_notes = refl
 abbrev late_tries : List BankTry
 late_tries =
     Reports (error 1 0 Ued 0 2 0x100 1)
-        ∷ (replicate 7 Drains ++ Reports (error 9 0 Uec 1 2 0x200 2) ∷ Drains ∷ Drains ∷ [])
+    ∷ (replicate 7 Drains ++ Reports (error 9 0 Uec 1 2 0x200 2) ∷ Drains ∷ Drains ∷ [])
 
 late_stays : is_signalled_after one.origins (after one bank_start late_tries).history 0 ≡ true
 unfolding bank_step asks raised least_signalled is_signalled_after level_after events_of level_in outcome wrote in_progress since is_logged control_fields status_fields flag bits level_of is_counted is_ce counted is_any is_shown_after came_at shown greatest_of rank_of severity_of severity_number has_severity is_multiple number_in status_after copy_after status_word bit_at copy_level greatest is_free
@@ -150,7 +150,7 @@ late_stands :
     (Reports (error 9 0 Uec 1 2 0x200 2) ∷ Drains ∷ Drains ∷ [])
     ≡
     heard_of (error 9 0 Uec 1 2 0x200 2) (Some (Wrote 2)) ∷ Drew 0 (note.Invalidated false) ∷ Drew 0 (note.Signal 1)
-        ∷ []
+    ∷ []
 unfolding bank_step asks raised least_signalled is_signalled_after level_after events_of level_in outcome wrote in_progress since is_logged control_fields status_fields flag bits level_of is_counted is_ce counted is_any is_shown_after came_at shown greatest_of rank_of severity_of severity_number has_severity is_multiple number_in status_after copy_after status_word bit_at copy_level greatest is_free
 late_stands = refl
 
