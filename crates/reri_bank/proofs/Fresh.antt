@@ -1,48 +1,12 @@
--- Fresh records, and banks of them.
-use Rattle.std.proofs.Common.{◌≡◌, ◌≢◌, ℕ, zero, suc, ◌+◌, ◌<◌, ◌≤◌, false, List, [], ◌∷◌, ◌++◌, length, slice_get, Some, refl, inl, inr, sym, ap, ◌∙◌, subst, arith}
-use Rattle.std.proofs.lemmas.Bool.{cases_eq, le-ltb}
+-- Banks to which nothing has happened yet.
+use Rattle.std.proofs.Common.{◌≡◌, ◌≢◌, ℕ, zero, suc, ◌+◌, ◌≤◌, false, List, [], ◌∷◌, ◌++◌, length, slice_get, Some, refl, inl, inr, sym, ap, ◌∙◌, subst, arith}
+use Rattle.std.proofs.lemmas.Bool.{cases_eq}
 use Rattle.std.proofs.lemmas.List.{length_push}
 use Rattle.std.proofs.lemmas.Option.{same_Some, none-some}
 use Rattle.reri_fields.specs.declared.report.RecordCopy.{RecordCopy}
-use Rattle.reri_fields.specs.Fields.{StatusFields, status_fields, status_spare, control_spare, flag, bits}
-use Rattle.reri_fields.specs.Records.{Origin, Stands, is_any, shown, is_multiple, has_severity, number_in, since, in_progress, counted}
+use Rattle.reri_fields.specs.Fields.{control_spare, bits}
+use Rattle.reri_fields.specs.Records.{Origin, Stands}
 use Rattle.reri_fields.specs.Banks.{BankStands, events_of, asks}
-use Rattle.reri_bank.specs.Registers.{origin_of}
-
-pub zero_fields : status_fields 0 ≡ record { valid = false; ce = false; ued = false; uec = false; priority = 0; multiple = false; in_progress = false; overflow = false; code = 0; count = 0 }
-unfolding status_fields flag bits
-zero_fields = refl
-
-pub zero_spare : status_spare 0 ≡ (0, 0, 0)
-unfolding status_spare bits
-zero_spare = refl
-
--- a record whose status has nothing but a count stands for the history in which nothing happened
-pub fresh_stands : (control count word : ℕ) → count < 65536 → status_fields word ≡ record (status_fields 0) { count = count } → status_spare word ≡ status_spare 0 → Stands (origin_of (control, count)) [] (record { control = control; status = word; address = 0; info = 0; supplement = 0; time = 0 })
-unfolding since in_progress counted is_any has_severity is_multiple shown number_in
-fresh_stands control count word small h spare =
-    let put : StatusFields → StatusFields = λ f. record f { count = count } in
-    let fields = h ∙ ap put zero_fields in
-    record {
-      control = refl;
-      shows = record {
-        valid = ap (λ f. f.valid) fields;
-        ce = ap (λ f. f.ce) fields;
-        ued = ap (λ f. f.ued) fields;
-        uec = ap (λ f. f.uec) fields;
-        multiple = ap (λ f. f.multiple) fields;
-        priority = ap (λ f. f.priority) fields;
-        code = ap (λ f. f.code) fields;
-        address = refl;
-        info = refl;
-        supplement = refl;
-        time = refl;
-      };
-      in_progress = ap (λ f. f.in_progress) fields;
-      count = ap (λ f. f.count) fields ∙ omega arith;
-      overflow = ap (λ f. f.overflow) fields ∙ sym (le-ltb 65535 count (omega arith));
-      others = spare ∙ zero_spare;
-    }
 
 pub clean_control : (control : ℕ) → control ≤ 255 → control_spare control ≡ 0
 unfolding control_spare bits
@@ -57,35 +21,53 @@ unfolding asks
 nobody_asks origins = refl
 
 pub bank_of_none : BankStands [] [] (record { copies = []; asks = false })
-bank_of_none = record { count = refl; controls = λ at origin h. absurd (none-some origin h); each = λ at origin copy h k. absurd (none-some origin h); asking = sym (nobody_asks []) }
+bank_of_none =
+    record {
+      count = refl;
+      controls = λ at origin h. absurd (none-some origin h);
+      each = λ at origin copy h k. absurd
+          (none-some origin h);
+      asking = sym (nobody_asks []);
+    }
 
-get-push_same : {X : Type 0} (xs : List X) (y : X) → slice_get (xs ++ y ∷ []) (length xs) ≡ Some y
+pub get-push_same : {X : Type 0} (xs : List X) (y : X) → slice_get (xs ++ y ∷ []) (length xs) ≡ Some y
 get-push_same [] y = refl
 get-push_same (x ∷ xs) y = get-push_same xs y
 
-get-push_other : {X : Type 0} (xs : List X) (y z : X) (at : ℕ) → at ≢ length xs → slice_get (xs ++ y ∷ []) at ≡ Some z → slice_get xs at ≡ Some z
+pub get-push_other : {X : Type 0} (xs : List X) (y z : X) (at : ℕ) → at ≢ length xs → slice_get (xs ++ y ∷ []) at
+    ≡ Some z → slice_get xs at ≡ Some z
 get-push_other [] y z zero ne h = absurd (ne refl)
 get-push_other [] y z (suc at) ne h = absurd (none-some z h)
 get-push_other (x ∷ xs) y z zero ne h = h
 get-push_other (x ∷ xs) y z (suc at) ne h = get-push_other xs y z at (λ e. ne (ap suc e)) h
 
-pub bank_with_one : (origins : List Origin) (copies : List RecordCopy) (origin : Origin) (copy : RecordCopy) → BankStands origins [] (record { copies = copies; asks = false }) → control_spare origin.control ≡ 0 → Stands origin [] copy → BankStands (origins ++ origin ∷ []) [] (record { copies = copies ++ copy ∷ []; asks = false })
+pub bank_with_one : (origins : List Origin) (copies : List RecordCopy) (origin : Origin) (copy : RecordCopy)
+    → BankStands origins [] (record { copies = copies; asks = false }) → control_spare origin.control ≡ 0
+    → Stands origin [] copy
+    → BankStands (origins ++ origin ∷ []) [] (record { copies = copies ++ copy ∷ []; asks = false })
 bank_with_one origins copies origin copy s clean fresh =
     record {
       count = length_push copies copy ∙ ap (λ n. n + 1) s.count ∙ sym (length_push origins origin);
       controls = λ at o h.
           elim (cases_eq at (length origins)) as (λ _. control_spare o.control ≡ 0) [
-            | inl here ↦ rw (same_Some o origin (sym h ∙ ap (slice_get (origins ++ origin ∷ [])) here ∙ get-push_same origins origin)) clean
+            | inl here ↦
+                rw (same_Some o origin (sym h ∙ ap (slice_get (origins ++ origin ∷ [])) here
+                ∙ get-push_same origins origin)) clean
             | inr elsewhere ↦ s.controls at o (get-push_other origins origin o at elsewhere h)
           ];
       each = λ at o c h k.
           elim (cases_eq at (length origins)) as (λ _. Stands o (events_of at []) c) [
             | inl here ↦
-                let same_origin = same_Some o origin (sym h ∙ ap (slice_get (origins ++ origin ∷ [])) here ∙ get-push_same origins origin) in
-                let same_copy = same_Some c copy (sym k ∙ ap (slice_get (copies ++ copy ∷ [])) (here ∙ sym s.count) ∙ get-push_same copies copy) in
-                subst (λ x. Stands x (events_of at []) c) (sym same_origin) (subst (λ x. Stands origin (events_of at []) x) (sym same_copy) (subst (λ x. Stands origin x copy) (sym (nothing_happened at)) fresh))
+                let same_origin = same_Some o origin (sym h ∙ ap (slice_get (origins ++ origin ∷ [])) here
+                ∙ get-push_same origins origin) in
+                let same_copy = same_Some c copy (sym k ∙ ap (slice_get (copies ++ copy ∷ [])) (here ∙ sym s.count)
+                ∙ get-push_same copies copy) in
+                subst (λ x. Stands x (events_of at []) c) (sym same_origin)
+                (subst (λ x. Stands origin (events_of at []) x) (sym same_copy)
+                (subst (λ x. Stands origin x copy) (sym (nothing_happened at)) fresh))
             | inr elsewhere ↦
-                s.each at o c (get-push_other origins origin o at elsewhere h) (get-push_other copies copy c at (λ e. elsewhere (e ∙ s.count)) k)
+                s.each at o c (get-push_other origins origin o at elsewhere h)
+                (get-push_other copies copy c at (λ e. elsewhere (e ∙ s.count)) k)
           ];
       asking = sym (nobody_asks (origins ++ origin ∷ []));
     }

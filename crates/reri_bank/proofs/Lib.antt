@@ -1,6 +1,7 @@
 pub mod Claimed
 pub mod Stands
 pub mod Signalled
-pub mod Summaries
+pub mod Placed
 pub mod Fresh
+pub mod Starting
 mod WorkedBanks

@@ -35,17 +35,20 @@ abbrev cleared : List BankEvent
 cleared = Invalidates 0 ∷ Claims 0 ∷ written
 
 -- an error that writes at level 1: the bank asks until a search finds none, whatever was cleared before
-written_asks : (asks origins written ≡ true) × (asks origins cleared ≡ true) × (asks origins (ScanOver ∷ cleared) ≡ false)
+written_asks : (asks origins written ≡ true) × (asks origins cleared ≡ true)
+    × (asks origins (ScanOver ∷ cleared) ≡ false)
 unfolding asks raised is_signalled_after level_after events_of level_in outcome wrote in_progress since is_logged control_fields flag bits level_of is_counted is_ce counted is_any is_shown_after came_at shown greatest_of rank_of severity_of severity_number
 written_asks = (refl, refl, refl)
 
 -- its record is signalled until it is cleared, and no other is
-written_signalled : (is_signalled_after origins written 0 ≡ true) × (is_signalled_after origins written 1 ≡ false) × (is_signalled_after origins cleared 0 ≡ false)
+written_signalled : (is_signalled_after origins written 0 ≡ true) × (is_signalled_after origins written 1 ≡ false)
+    × (is_signalled_after origins cleared 0 ≡ false)
 unfolding asks raised is_signalled_after level_after events_of level_in outcome wrote in_progress since is_logged control_fields flag bits level_of is_counted is_ce counted is_any is_shown_after came_at shown greatest_of rank_of severity_of severity_number
 written_signalled = (refl, refl, refl)
 
 -- a valid record of level 0 is not signalled, and the bank does not ask for it
-level_zero : (asks origins (Logs (error 1 1 Uec) ∷ []) ≡ false) × (is_signalled_after origins (Logs (error 1 1 Uec) ∷ []) 1 ≡ false)
+level_zero : (asks origins (Logs (error 1 1 Uec) ∷ []) ≡ false)
+    × (is_signalled_after origins (Logs (error 1 1 Uec) ∷ []) 1 ≡ false)
 unfolding asks raised is_signalled_after level_after events_of level_in outcome wrote in_progress since is_logged control_fields flag bits level_of is_counted is_ce counted is_any is_shown_after came_at shown greatest_of rank_of severity_of severity_number
 level_zero = (refl, refl)
 

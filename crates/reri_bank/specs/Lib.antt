@@ -1,2 +1,3 @@
 pub mod Registers
 pub mod Accesses
+pub mod Layout

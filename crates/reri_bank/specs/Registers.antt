@@ -1,5 +1,6 @@
 -- What a reader does to the registers of one record, and what they read as, for any registers.
--- Read-in-progress and the invalidation follow RERI 1.0 (`srdp` and `sinv` of `control_i`), in this project's profile: an
+-- Read-in-progress and the invalidation follow RERI 1.0 (`srdp` and `sinv` of `control_i`), in this project's profile:
+-- an
 -- invalidation takes effect only where read-in-progress is set.
 use Rattle.std.specs.Prelude.{◌≡◌, ℕ, ◌+◌, ◌*◌, true, false, if◌then◌else◌, MatchBool, List, [], ◌∷◌, slice_get, slice_set, Some}
 use Rattle.reri_fields.specs.declared.report.RecordCopy.{RecordCopy}
@@ -9,10 +10,6 @@ use Rattle.reri_fields.specs.Fields.{StatusFields, status_fields, status_spare}
 -- how a record begins that is given by its control word and its starting count
 abbrev pub origin_of : ℕ × ℕ → Origin
 origin_of first = record { control = first.0; count = first.1 }
-
--- the six registers, in their order
-abbrev pub registers : RecordCopy → List ℕ
-registers copy = copy.control ∷ copy.status ∷ copy.address ∷ copy.info ∷ copy.supplement ∷ copy.time ∷ []
 
 -- the status fields with read-in-progress set, where the record is valid
 unfoldable pub claimed : StatusFields → StatusFields

@@ -7,6 +7,7 @@
 
 mod access;
 mod bank;
+mod layout;
 mod record;
 
 pub use access::Access;

@@ -1,25 +1,10 @@
 //! What an access does to one record.
-ghost use Rattle.std.specs.Prelude.{◌≡◌, []};
-ghost use Rattle.reri_fields.specs.Records.{Stands};
+ghost use Rattle.std.specs.Prelude.{◌≡◌};
 ghost use Rattle.reri_fields.specs.Banks.{is_signalled};
 ghost use Rattle.reri_fields.specs.Fields.{status_fields};
-ghost use Rattle.reri_bank.specs.Registers.{origin_of, IsClaimed, IsCleared, IsInvalidated};
+ghost use Rattle.reri_bank.specs.Registers.{IsClaimed, IsCleared, IsInvalidated};
 
 use reri_fields::{Control, RecordCopy, Status};
-
-/// A record with this control word and count that holds no error.
-pub fn fresh(control: u64, count: u16) -> RecordCopy
-    ensures { Stands (origin_of (control, count)) [] result }
-{
-    RecordCopy {
-        control,
-        status: Status(0).with_count(count).0,
-        address: 0,
-        info: 0,
-        supplement: 0,
-        time: 0,
-    }
-}
 
 /// Sets read-in-progress where the record is valid.
 #[tactic(auto, unfolding(crate::specs::Registers::claimed))]

@@ -2,6 +2,7 @@ pub mod Places
 pub mod Setters
 pub mod Copies
 pub mod Written
+pub mod Fresh
 mod Rows
 mod WorkedRecords
 mod Blocks

@@ -5,12 +5,14 @@ use Rattle.reri_fields.specs.declared.severity.Severity.TheVariants.{Ued, Uec}
 use Rattle.reri_fields.specs.Fields.{bits, flag, control_fields, control_spare, status_fields, status_spare, level_of, greatest}
 
 -- enabled, not counting; corrected and contained errors at low priority, the others at high
-plain_control : control_fields 0x95 ≡ record { enable = true; counting = false; ce_signal = 1; ued_signal = 1; uec_signal = 2 }
+plain_control : control_fields 0x95
+    ≡ record { enable = true; counting = false; ce_signal = 1; ued_signal = 1; uec_signal = 2 }
 unfolding control_fields flag bits
 plain_control = refl
 
 -- the same with counting
-counting_control : control_fields 0x97 ≡ record { enable = true; counting = true; ce_signal = 1; ued_signal = 1; uec_signal = 2 }
+counting_control : control_fields 0x97
+    ≡ record { enable = true; counting = true; ce_signal = 1; ued_signal = 1; uec_signal = 2 }
 unfolding control_fields flag bits
 counting_control = refl
 
@@ -20,12 +22,38 @@ unfolding level_of control_fields flag bits
 contained_level = refl
 
 -- a corrected error of code 7 is shown, the count has wrapped and one more was counted since
-wrapped_status : status_fields 0x100070103 ≡ record { valid = true; ce = true; ued = false; uec = false; priority = 0; multiple = false; in_progress = false; overflow = true; code = 7; count = 1 }
+wrapped_status : status_fields 0x100070103
+    ≡ record {
+      valid = true;
+      ce = true;
+      ued = false;
+      uec = false;
+      priority = 0;
+      multiple = false;
+      in_progress =
+          false;
+      overflow = true;
+      code = 7;
+      count = 1;
+    }
 unfolding status_fields flag bits
 wrapped_status = refl
 
 -- errors of two severities came, the record shows one of priority 0 and code 2 and is being read
-read_status : status_fields 0x2008d ≡ record { valid = true; ce = false; ued = true; uec = true; priority = 0; multiple = false; in_progress = true; overflow = false; code = 2; count = 0 }
+read_status : status_fields 0x2008d
+    ≡ record {
+      valid = true;
+      ce = false;
+      ued = true;
+      uec = true;
+      priority = 0;
+      multiple = false;
+      in_progress =
+          true;
+      overflow = false;
+      code = 2;
+      count = 0;
+    }
 unfolding status_fields flag bits
 read_status = refl
 

@@ -95,7 +95,8 @@ two_asks : asks two.origins (after two bank_start (two_errors ++ replicate 17 Dr
 unfolding bank_step asks raised least_signalled is_signalled_after level_after events_of level_in outcome wrote in_progress since is_logged control_fields status_fields flag bits level_of is_counted is_ce counted is_any is_shown_after came_at shown greatest_of rank_of severity_of severity_number has_severity is_multiple number_in status_after copy_after status_word bit_at copy_level greatest is_free
 two_asks = refl
 
--- No drain begins while the slot is full. Once it is acknowledged, one begins whose Scan finds nothing: it is over, and the
+-- No drain begins while the slot is full. Once it is acknowledged, one begins whose Scan finds nothing: it is over,
+-- and the
 -- bank no longer asks.
 abbrev drained : BankState
 drained = after two bank_start (two_errors ++ replicate 17 Drains)
@@ -107,7 +108,9 @@ full_waits = refl
 
 -- ---- An acknowledgement while the drain is on its way: the slot holds the copies that came after it ----
 
-acknowledged_midway : (after two bank_start (two_errors ++ replicate 8 Drains ++ Acknowledges ∷ replicate 9 Drains)).slot ≡ second_copy ∷ []
+acknowledged_midway :
+    (after two bank_start (two_errors ++ replicate 8 Drains ++ Acknowledges ∷ replicate 9 Drains)).slot ≡ second_copy
+    ∷ []
 unfolding bank_step asks raised least_signalled is_signalled_after level_after events_of level_in outcome wrote in_progress since is_logged control_fields status_fields flag bits level_of is_counted is_ce counted is_any is_shown_after came_at shown greatest_of rank_of severity_of severity_number has_severity is_multiple number_in status_after copy_after status_word bit_at copy_level greatest is_free
 acknowledged_midway = refl
 
@@ -135,7 +138,8 @@ torn_notes = refl
 
 abbrev late_tries : List BankTry
 late_tries =
-    Reports (error 1 0 Ued 0 2 0x100 1) ∷ (replicate 7 Drains ++ Reports (error 9 0 Uec 1 2 0x200 2) ∷ Drains ∷ Drains ∷ [])
+    Reports (error 1 0 Ued 0 2 0x100 1)
+    ∷ (replicate 7 Drains ++ Reports (error 9 0 Uec 1 2 0x200 2) ∷ Drains ∷ Drains ∷ [])
 
 late_stays : is_signalled_after one.origins (after one bank_start late_tries).history 0 ≡ true
 unfolding bank_step asks raised least_signalled is_signalled_after level_after events_of level_in outcome wrote in_progress since is_logged control_fields status_fields flag bits level_of is_counted is_ce counted is_any is_shown_after came_at shown greatest_of rank_of severity_of severity_number has_severity is_multiple number_in status_after copy_after status_word bit_at copy_level greatest is_free
@@ -145,7 +149,8 @@ late_stands :
     notes one (after one bank_start (Reports (error 1 0 Ued 0 2 0x100 1) ∷ replicate 7 Drains))
     (Reports (error 9 0 Uec 1 2 0x200 2) ∷ Drains ∷ Drains ∷ [])
     ≡
-    heard_of (error 9 0 Uec 1 2 0x200 2) (Some (Wrote 2)) ∷ Drew 0 (note.Invalidated false) ∷ Drew 0 (note.Signal 1) ∷ []
+    heard_of (error 9 0 Uec 1 2 0x200 2) (Some (Wrote 2)) ∷ Drew 0 (note.Invalidated false) ∷ Drew 0 (note.Signal 1)
+    ∷ []
 unfolding bank_step asks raised least_signalled is_signalled_after level_after events_of level_in outcome wrote in_progress since is_logged control_fields status_fields flag bits level_of is_counted is_ce counted is_any is_shown_after came_at shown greatest_of rank_of severity_of severity_number has_severity is_multiple number_in status_after copy_after status_word bit_at copy_level greatest is_free
 late_stands = refl
 
@@ -157,6 +162,7 @@ unfolding bank_step asks raised least_signalled is_signalled_after level_after e
 nothing_due = refl
 
 -- an error for a record that the bank has not
-stray : notes one bank_start (Reports (error 1 1 Uec 0 2 0x100 1) ∷ Drains ∷ []) ≡ heard_of (error 1 1 Uec 0 2 0x100 1) None ∷ []
+stray : notes one bank_start (Reports (error 1 1 Uec 0 2 0x100 1) ∷ Drains ∷ [])
+    ≡ heard_of (error 1 1 Uec 0 2 0x100 1) None ∷ []
 unfolding bank_step asks raised least_signalled is_signalled_after level_after events_of level_in outcome wrote in_progress since is_logged control_fields status_fields flag bits level_of is_counted is_ce counted is_any is_shown_after came_at shown greatest_of rank_of severity_of severity_number has_severity is_multiple number_in status_after copy_after status_word bit_at copy_level greatest is_free
 stray = refl

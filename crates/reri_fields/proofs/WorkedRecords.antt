@@ -1,4 +1,5 @@
--- Histories of one record, with what it holds and shows after them and what each error did, computed from the definitions.
+-- Histories of one record, with what it holds and shows after them and what each error did, computed from the
+-- definitions.
 use Rattle.std.proofs.Common.{◌≡◌, ℕ, ◌%◌, false, List, [], ◌∷◌, refl}
 use Rattle.std.specs.Prelude.{nat_lt}
 use Rattle.reri_fields.specs.declared.severity.Severity.{Severity}
@@ -68,7 +69,8 @@ first_try_is_torn : in_progress plain torn_history ≡ false
 unfolding outcome wrote in_progress since is_logged control_fields status_fields status_spare flag bits level_of is_counted is_ce counted is_any is_shown_after came_at shown greatest_of rank_of severity_of severity_number has_severity is_multiple number_in
 first_try_is_torn = refl
 
-second_try_publishes : Stands plain (Claimed ∷ torn_history) (record { control = 0x95; status = 0x2008d; address = 0x200; info = 0; supplement = 0; time = 2 })
+second_try_publishes : Stands plain (Claimed ∷ torn_history)
+    (record { control = 0x95; status = 0x2008d; address = 0x200; info = 0; supplement = 0; time = 2 })
 unfolding outcome wrote in_progress since is_logged control_fields status_fields status_spare flag bits level_of is_counted is_ce counted is_any is_shown_after came_at shown greatest_of rank_of severity_of severity_number has_severity is_multiple number_in
 second_try_publishes = record {
   control = refl;
@@ -111,11 +113,13 @@ invalidation_stood : since plain (Invalidated ∷ Reported late ∷ Claimed ∷ 
 unfolding outcome wrote in_progress since is_logged control_fields status_fields status_spare flag bits level_of is_counted is_ce counted is_any is_shown_after came_at shown greatest_of rank_of severity_of severity_number has_severity is_multiple number_in
 invalidation_stood = refl
 
-late_shows : status_fields 0x2008b ≡ fields_of plain (Claimed ∷ Invalidated ∷ Reported late ∷ Claimed ∷ Reported early ∷ [])
+late_shows : status_fields 0x2008b
+    ≡ fields_of plain (Claimed ∷ Invalidated ∷ Reported late ∷ Claimed ∷ Reported early ∷ [])
 unfolding outcome wrote in_progress since is_logged control_fields status_fields status_spare flag bits level_of is_counted is_ce counted is_any is_shown_after came_at shown greatest_of rank_of severity_of severity_number has_severity is_multiple number_in
 late_shows = refl
 
-then_cleared : status_fields 0 ≡ fields_of plain (Invalidated ∷ Claimed ∷ Invalidated ∷ Reported late ∷ Claimed ∷ Reported early ∷ [])
+then_cleared : status_fields 0
+    ≡ fields_of plain (Invalidated ∷ Claimed ∷ Invalidated ∷ Reported late ∷ Claimed ∷ Reported early ∷ [])
 unfolding outcome wrote in_progress since is_logged control_fields status_fields status_spare flag bits level_of is_counted is_ce counted is_any is_shown_after came_at shown greatest_of rank_of severity_of severity_number has_severity is_multiple number_in
 then_cleared = refl
 
@@ -157,7 +161,12 @@ rising_11 = Reported (error 11 Uec 2 11 0 0) ∷ Claimed ∷ rising_10
 abbrev rising_12 : List Event
 rising_12 = Reported (error 12 Uec 3 12 0 0) ∷ Claimed ∷ rising_11
 
-each_earlier_claim_is_torn : (in_progress plain rising_2 ≡ false) × (in_progress plain rising_3 ≡ false) × (in_progress plain rising_4 ≡ false) × (in_progress plain rising_5 ≡ false) × (in_progress plain rising_6 ≡ false) × (in_progress plain rising_7 ≡ false) × (in_progress plain rising_8 ≡ false) × (in_progress plain rising_9 ≡ false) × (in_progress plain rising_10 ≡ false) × (in_progress plain rising_11 ≡ false) × (in_progress plain rising_12 ≡ false)
+each_earlier_claim_is_torn : (in_progress plain rising_2 ≡ false) × (in_progress plain rising_3 ≡ false)
+    × (in_progress plain rising_4 ≡ false) × (in_progress plain rising_5 ≡ false)
+    × (in_progress plain rising_6 ≡ false) × (in_progress plain rising_7 ≡ false)
+    × (in_progress plain rising_8 ≡ false) × (in_progress plain rising_9 ≡ false)
+    × (in_progress plain rising_10 ≡ false) × (in_progress plain rising_11 ≡ false)
+    × (in_progress plain rising_12 ≡ false)
 unfolding outcome wrote in_progress since is_logged control_fields status_fields status_spare flag bits level_of is_counted is_ce counted is_any is_shown_after came_at shown greatest_of rank_of severity_of severity_number has_severity is_multiple number_in
 each_earlier_claim_is_torn = (refl, refl, refl, refl, refl, refl, refl, refl, refl, refl, refl)
 
@@ -199,15 +208,19 @@ ranked_greater_outcome : outcome plain (Reported ranked_equal ∷ Reported ranke
 unfolding outcome wrote in_progress since is_logged control_fields status_fields status_spare flag bits level_of is_counted is_ce counted is_any is_shown_after came_at shown greatest_of rank_of severity_of severity_number has_severity is_multiple number_in
 ranked_greater_outcome = refl
 
-ranked_greater_shows : status_fields 0x5000b ≡ fields_of plain (Reported ranked_greater ∷ Reported ranked_equal ∷ Reported ranked_first ∷ [])
+ranked_greater_shows : status_fields 0x5000b
+    ≡ fields_of plain (Reported ranked_greater ∷ Reported ranked_equal ∷ Reported ranked_first ∷ [])
 unfolding outcome wrote in_progress since is_logged control_fields status_fields status_spare flag bits level_of is_counted is_ce counted is_any is_shown_after came_at shown greatest_of rank_of severity_of severity_number has_severity is_multiple number_in
 ranked_greater_shows = refl
 
-ranked_middle_outcome : outcome plain (Reported ranked_greater ∷ Reported ranked_equal ∷ Reported ranked_first ∷ []) ranked_middle ≡ Kept
+ranked_middle_outcome : outcome plain (Reported ranked_greater ∷ Reported ranked_equal ∷ Reported ranked_first ∷ [])
+    ranked_middle ≡ Kept
 unfolding outcome wrote in_progress since is_logged control_fields status_fields status_spare flag bits level_of is_counted is_ce counted is_any is_shown_after came_at shown greatest_of rank_of severity_of severity_number has_severity is_multiple number_in
 ranked_middle_outcome = refl
 
-ranked_middle_shows : status_fields 0x5000f ≡ fields_of plain (Reported ranked_middle ∷ Reported ranked_greater ∷ Reported ranked_equal ∷ Reported ranked_first ∷ [])
+ranked_middle_shows : status_fields 0x5000f
+    ≡ fields_of plain (Reported ranked_middle ∷ Reported ranked_greater ∷ Reported ranked_equal
+    ∷ Reported ranked_first ∷ [])
 unfolding outcome wrote in_progress since is_logged control_fields status_fields status_spare flag bits level_of is_counted is_ce counted is_any is_shown_after came_at shown greatest_of rank_of severity_of severity_number has_severity is_multiple number_in
 ranked_middle_shows = refl
 
@@ -216,15 +229,22 @@ ranked_middle_shows = refl
 abbrev off : Origin
 off = record { control = 0x94; count = 0 }
 
-none_logged : since off (Reported ranked_middle ∷ Reported ranked_greater ∷ Reported ranked_equal ∷ Reported ranked_first ∷ []) ≡ []
+none_logged : since off (Reported ranked_middle ∷ Reported ranked_greater ∷ Reported ranked_equal
+    ∷ Reported ranked_first ∷ []) ≡ []
 unfolding outcome wrote in_progress since is_logged control_fields status_fields status_spare flag bits level_of is_counted is_ce counted is_any is_shown_after came_at shown greatest_of rank_of severity_of severity_number has_severity is_multiple number_in
 none_logged = refl
 
-all_disabled : (outcome off [] ranked_first ≡ Disabled) × (outcome off (Reported ranked_first ∷ []) ranked_equal ≡ Disabled) × (outcome off (Reported ranked_equal ∷ Reported ranked_first ∷ []) ranked_greater ≡ Disabled) × (outcome off (Reported ranked_greater ∷ Reported ranked_equal ∷ Reported ranked_first ∷ []) ranked_middle ≡ Disabled)
+all_disabled : (outcome off [] ranked_first ≡ Disabled)
+    × (outcome off (Reported ranked_first ∷ []) ranked_equal ≡ Disabled)
+    × (outcome off (Reported ranked_equal ∷ Reported ranked_first ∷ []) ranked_greater ≡ Disabled)
+    × (outcome off (Reported ranked_greater ∷ Reported ranked_equal ∷ Reported ranked_first ∷ []) ranked_middle
+    ≡ Disabled)
 unfolding outcome wrote in_progress since is_logged control_fields status_fields status_spare flag bits level_of is_counted is_ce counted is_any is_shown_after came_at shown greatest_of rank_of severity_of severity_number has_severity is_multiple number_in
 all_disabled = (refl, refl, refl, refl)
 
-off_shows : status_fields 0 ≡ fields_of off (Reported ranked_middle ∷ Reported ranked_greater ∷ Reported ranked_equal ∷ Reported ranked_first ∷ [])
+off_shows : status_fields 0
+    ≡ fields_of off (Reported ranked_middle ∷ Reported ranked_greater ∷ Reported ranked_equal ∷ Reported ranked_first
+    ∷ [])
 unfolding outcome wrote in_progress since is_logged control_fields status_fields status_spare flag bits level_of is_counted is_ce counted is_any is_shown_after came_at shown greatest_of rank_of severity_of severity_number has_severity is_multiple number_in
 off_shows = refl
 
@@ -242,10 +262,13 @@ corrected_2 = error 2 Ce 0 7 0 0
 abbrev corrected_3 : Error
 corrected_3 = error 3 Ce 0 7 0 0
 
-wraps_at_the_second : (outcome counting [] corrected_1 ≡ Counted) × (outcome counting (Reported corrected_1 ∷ []) corrected_2 ≡ Wrote 1) × (outcome counting (Reported corrected_2 ∷ Reported corrected_1 ∷ []) corrected_3 ≡ Counted)
+wraps_at_the_second : (outcome counting [] corrected_1 ≡ Counted)
+    × (outcome counting (Reported corrected_1 ∷ []) corrected_2 ≡ Wrote 1)
+    × (outcome counting (Reported corrected_2 ∷ Reported corrected_1 ∷ []) corrected_3 ≡ Counted)
 unfolding outcome wrote in_progress since is_logged control_fields status_fields status_spare flag bits level_of is_counted is_ce counted is_any is_shown_after came_at shown greatest_of rank_of severity_of severity_number has_severity is_multiple number_in
 wraps_at_the_second = (refl, refl, refl)
 
-wrapped_shows : status_fields 0x100070103 ≡ fields_of counting (Reported corrected_3 ∷ Reported corrected_2 ∷ Reported corrected_1 ∷ [])
+wrapped_shows : status_fields 0x100070103
+    ≡ fields_of counting (Reported corrected_3 ∷ Reported corrected_2 ∷ Reported corrected_1 ∷ [])
 unfolding outcome wrote in_progress since is_logged control_fields status_fields status_spare flag bits level_of is_counted is_ce counted is_any is_shown_after came_at shown greatest_of rank_of severity_of severity_number has_severity is_multiple number_in
 wrapped_shows = refl

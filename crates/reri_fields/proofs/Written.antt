@@ -1,9 +1,10 @@
 -- A record that was written among words is read again.
-use Rattle.std.proofs.Common.{◌≡◌, ℕ, zero, suc, ◌+◌, ◌≤◌, List, [], ◌∷◌, length, refl, ap, arith}
+use Rattle.std.proofs.Common.{◌≡◌, ℕ, zero, suc, ◌+◌, ◌≤◌, List, [], ◌∷◌, length, refl, arith}
 use Rattle.reri_fields.specs.declared.report.RecordCopy.{RecordCopy}
 use Rattle.reri_fields.specs.Words.{copy_at, with_record}
 
-pub written_is : (words : List ℕ) (at : ℕ) (copy : RecordCopy) → at + 6 ≤ length words → copy_at (with_record words at copy) at ≡ copy
+pub written_is : (words : List ℕ) (at : ℕ) (copy : RecordCopy) → at + 6 ≤ length words
+    → copy_at (with_record words at copy) at ≡ copy
 unfolding copy_at with_record
 written_is (a ∷ b ∷ c ∷ d ∷ e ∷ f ∷ words) zero copy h = refl
 written_is (a ∷ b ∷ c ∷ d ∷ e ∷ []) zero copy h = absurd (omega arith)

@@ -1,6 +1,8 @@
--- A bank of error records: what can happen to it, what of that happened to one record, when the bank asks to be drained,
+-- A bank of error records: what can happen to it, what of that happened to one record, when the bank asks to be
+-- drained,
 -- and which of its records are signalled.
--- A bank of records and the levels follow RERI 1.0 (an error bank, and the signal codes of `control_i`). The ask flag, and
+-- A bank of records and the levels follow RERI 1.0 (an error bank, and the signal codes of `control_i`). The ask flag,
+-- and
 -- that a drain goes by the least record that is signalled, are this project's own.
 use Rattle.std.specs.Prelude.{◌≡◌, ℕ, ◌<◌, nat_lt, ◌==◌, Bool, true, false, ◌&&◌, ◌||◌, if◌then◌else◌, List, [], ◌∷◌, length, find, slice_get, Option, Some, None}
 use Rattle.std.specs.List.{range_with_len}
@@ -15,8 +17,10 @@ use Rattle.reri_fields.specs.Outcome.{outcome}
 
 -- ---- What can happen to a bank ----
 
--- An error was reported (its report names the record), somebody set read-in-progress of a record, somebody tried to clear
--- one, a search for a signalled record found none. A history has the newest event first. An event that names no record of
+-- An error was reported (its report names the record), somebody set read-in-progress of a record, somebody tried to
+-- clear
+-- one, a search for a signalled record found none. A history has the newest event first. An event that names no record
+-- of
 -- the bank means nothing.
 pub data BankEvent : Type 0 where
   Logs : Error → BankEvent
@@ -79,7 +83,8 @@ asks origins (ScanOver ∷ history) = false
 -- the level of the error that a record shows, which has the greatest severity; 0 where it shows none
 unfoldable pub level_after : Origin → List Event → ℕ
 level_after origin history =
-    option_map_or (λ error. level_of (control_fields origin.control) error.report.severity) (shown (since origin history)) 0
+    option_map_or (λ error. level_of (control_fields origin.control) error.report.severity)
+    (shown (since origin history)) 0
 
 -- whether a record of the bank is signalled: it shows an error, and the level is not 0
 unfoldable pub is_signalled_after : List Origin → List BankEvent → ℕ → Bool
@@ -118,5 +123,6 @@ pub record BankView : Type 0 where
 pub record BankStands (origins : List Origin) (history : List BankEvent) (bank : BankView) : Type 0 where
   pub count : length bank.copies ≡ length origins
   pub controls : (at : ℕ) (origin : Origin) → slice_get origins at ≡ Some origin → control_spare origin.control ≡ 0
-  pub each : (at : ℕ) (origin : Origin) (copy : RecordCopy) → slice_get origins at ≡ Some origin → slice_get bank.copies at ≡ Some copy → Stands origin (events_of at history) copy
+  pub each : (at : ℕ) (origin : Origin) (copy : RecordCopy) → slice_get origins at ≡ Some origin
+      → slice_get bank.copies at ≡ Some copy → Stands origin (events_of at history) copy
   pub asking : bank.asks ≡ asks origins history

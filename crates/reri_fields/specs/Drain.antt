@@ -1,6 +1,8 @@
 -- The drain of a bank: how firmware takes errors out of a bank's records, one phase a step, while errors go on coming.
--- Read-in-progress and the invalidation are those of RERI 1.0 (`srdp` and `sinv` of `control_i`, `rdip` of `status_i`). That
--- a slot of copies is acknowledged and then free again follows ACPI 6.5, 18.3.2.7 (GHESv2). The nine phases, up to how many
+-- Read-in-progress and the invalidation are those of RERI 1.0 (`srdp` and `sinv` of `control_i`, `rdip` of
+-- `status_i`). That
+-- a slot of copies is acknowledged and then free again follows ACPI 6.5, 18.3.2.7 (GHESv2). The nine phases, up to how
+-- many
 -- copies a drain gathers, and that it signals once, at the greatest level, are this project's own.
 use Rattle.std.specs.Prelude.{ℕ, suc, max, nat_lt, ◌==◌, Bool, true, false, ◌&&◌, if◌then◌else◌, List, [], ◌∷◌, ◌++◌, slice_get, Option, Some, None}
 use Rattle.std.specs.Option.{option_map}
@@ -23,7 +25,8 @@ pub record BankPlan : Type 0 where
   pub origins : List Origin
   pub gather : ℕ
 
--- A drain that is under way: the phase that its next step takes, the record that it has taken (0 where it has none), how
+-- A drain that is under way: the phase that its next step takes, the record that it has taken (0 where it has none),
+-- how
 -- many copies it has published so far, and the greatest level of these, 0 where there are none.
 pub record Draining : Type 0 where
   pub phase : Phase
@@ -37,7 +40,8 @@ pub record Publication : Type 0 where
   pub shown : Option Error
   pub copy : RecordCopy
 
--- What happened to the bank and what was published, the newest first; the copies that its slot holds, the oldest first; and
+-- What happened to the bank and what was published, the newest first; the copies that its slot holds, the oldest
+-- first; and
 -- its drain, where one is under way.
 pub record BankState : Type 0 where
   pub history : List BankEvent
@@ -89,7 +93,8 @@ scanned s d (Some rec) =
 
 -- read-in-progress is set
 abbrev pub claimed : BankState → Draining → Drained
-claimed s d = record { state = goes_to Address (record s { history = Claims d.rec ∷ s.history }) d; note = note.Claimed }
+claimed s d =
+    record { state = goes_to Address (record s { history = Claims d.rec ∷ s.history }) d; note = note.Claimed }
 
 -- a register is read, by its number in the order of the six
 abbrev pub read : ℕ → Phase → BankState → Draining → Drained
@@ -119,7 +124,8 @@ published s d p =
       note = note.Published p.copy;
     }
 
--- A Check publishes where the claim still counts. A record that the bank has not is never checked: then it counts as torn.
+-- A Check publishes where the claim still counts. A record that the bank has not is never checked: then it counts as
+-- torn.
 abbrev pub checked_if : BankState → Draining → Origin → Bool → Drained
 checked_if s d origin true = published s d (publication s d.rec origin)
 checked_if s d origin false = torn s d
@@ -181,13 +187,15 @@ abbrev pub due_drain : BankPlan → BankState → Option Draining → Option Dra
 due_drain plan s (Some d) = Some d
 due_drain plan s None = if may_begin plan s then Some fresh_drain else None
 
--- what a step that came to a bank was: an error for one of its records, a step of its drain, an acknowledgement of its slot
+-- what a step that came to a bank was: an error for one of its records, a step of its drain, an acknowledgement of its
+-- slot
 pub data BankTry : Type 0 where
   Reports : Error → BankTry
   Drains : BankTry
   Acknowledges : BankTry
 
--- What such a step came to: what became of an error (none where the bank has not the record that it names), the record and
+-- What such a step came to: what became of an error (none where the bank has not the record that it names), the record
+-- and
 -- the note of a drain's step, and whether an acknowledgement found the slot full.
 pub data BankNote : Type 0 where
   Heard : Report → Option Logged → BankNote
@@ -201,7 +209,8 @@ pub record BankStep : Type 0 where
 -- what became of an error that is reported after this history
 abbrev pub heard : List Origin → List BankEvent → Error → Option Logged
 heard origins history error =
-    option_map (λ origin. outcome origin (events_of error.report.rec history) error) (slice_get origins error.report.rec)
+    option_map (λ origin. outcome origin (events_of error.report.rec history) error)
+    (slice_get origins error.report.rec)
 
 abbrev pub drew : Draining → Drained → BankStep
 drew d step = record { state = step.state; note = Drew d.rec step.note }

@@ -1,6 +1,12 @@
 //! An error as it is reported, a record's registers, and what logging did.
 
+ghost use Rattle.std.specs.Prelude.{◌≡◌, ◌≤◌, [], ◌∷◌};
+ghost use Rattle.reri_fields.specs.Fields.{control_spare};
+ghost use Rattle.reri_fields.specs.Records.{Stands, IsRecord};
+ghost use Rattle.reri_fields.specs.Words.{registers};
+
 use crate::severity::Severity;
+use crate::status::Status;
 
 /// One error, as a reporter gives it. The priority is at most 3: the calls that log it say so.
 #[derive(Clone, Copy, PartialEq, Eq, Debug, Drop)]
@@ -40,6 +46,37 @@ pub struct RecordCopy {
     pub supplement: u64,
     /// When the shown error came.
     pub time: u64,
+}
+
+impl RecordCopy {
+    /// A record with this control word and count that holds no error, and to which nothing has happened yet.
+    pub fn fresh(control: u64, count: u16) -> RecordCopy
+        ensures stands { Stands (record { control = control; count = count }) [] result }
+        ensures clean { control_spare control ≡ 0 → IsRecord result }
+    {
+        RecordCopy {
+            control,
+            status: Status(0).with_count(count).0,
+            address: 0,
+            info: 0,
+            supplement: 0,
+            time: 0,
+        }
+    }
+
+    /// The six registers in their order.
+    pub fn registers(&self) -> [u64; 6]
+        ensures { result ≡ registers self.now }
+    {
+        [
+            self.control,
+            self.status,
+            self.address,
+            self.info,
+            self.supplement,
+            self.time,
+        ]
+    }
 }
 
 /// What logging an error did.

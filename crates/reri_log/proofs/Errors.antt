@@ -19,7 +19,8 @@ count_yes b h = rw h refl
 count_no : (b : Bool) → b ≡ false → ◌≡◌ {A = ℕ} (cond b 1 0) 0
 count_no b h = rw h refl
 
-pub greatest_of-push : (f : Error → ℕ) (xs : List Error) (e : Error) → greatest_of f (xs ++ e ∷ []) ≡ max (greatest_of f xs) (f e)
+pub greatest_of-push : (f : Error → ℕ) (xs : List Error) (e : Error) → greatest_of f (xs ++ e ∷ [])
+    ≡ max (greatest_of f xs) (f e)
 unfolding greatest_of
 greatest_of-push f [] e = grind arith
 greatest_of-push f (x ∷ xs) e = rw (greatest_of-push f xs e) (grind arith)
@@ -61,11 +62,13 @@ find_counts p (y ∷ ys) x h =
     elim (cases_Bool (p y)) as (λ _. 0 < count_by p (y ∷ ys)) [
       | inl yes_here ↦ rw (sum_by-cons (λ z. cond (p z) 1 0) y ys) (rw yes_here (omega arith))
       | inr not_here ↦
-          rw (sum_by-cons (λ z. cond (p z) 1 0) y ys) (omega (arith, find_counts p ys x (sym (cond-false _ (Some y) (find p ys) not_here) ∙ h)))
+          rw (sum_by-cons (λ z. cond (p z) 1 0) y ys)
+          (omega (arith, find_counts p ys x (sym (cond-false _ (Some y) (find p ys) not_here) ∙ h)))
     ]
 
 -- where the list has an error, some error has the greatest number, and `find` gives it
-pub find_attained : (f : Error → ℕ) (xs : List Error) → is_any xs ≡ true → (x : Error) × (find (λ y. f y == greatest_of f xs) xs ≡ Some x) × (f x ≡ greatest_of f xs)
+pub find_attained : (f : Error → ℕ) (xs : List Error) → is_any xs ≡ true
+    → (x : Error) × (find (λ y. f y == greatest_of f xs) xs ≡ Some x) × (f x ≡ greatest_of f xs)
 unfolding greatest_of is_any
 find_attained f [] h = cc
 find_attained f (x ∷ []) h =
@@ -74,18 +77,22 @@ find_attained f (x ∷ []) h =
     (x, cond-true _ (Some x) None here, sym same)
 find_attained f (x ∷ y ∷ ys) h =
     let n = greatest_of f (y ∷ ys) in
-    elim (cases_lt (f x) n) as (λ _. (z : Error) × (find (λ w. f w == max (f x) n) (x ∷ y ∷ ys) ≡ Some z) × (f z ≡ max (f x) n)) [
+    elim (cases_lt (f x) n) as (λ _. (z : Error) × (find (λ w. f w == max (f x) n) (x ∷ y ∷ ys) ≡ Some z)
+    × (f z ≡ max (f x) n)) [
       | inl less ↦
           let top : max (f x) n ≡ n = grind arith in
           let differ : eqb (f x) n ≡ false = grind (arith, nat_tests) in
           let rest = find_attained f (y ∷ ys) refl in
-          subst (λ m. (z : Error) × (find (λ w. f w == m) (x ∷ y ∷ ys) ≡ Some z) × (f z ≡ m)) (sym top) (rest.0, cond-false _ (Some x) (find (λ w. f w == n) (y ∷ ys)) differ ∙ rest.1, rest.2)
+          subst (λ m. (z : Error) × (find (λ w. f w == m) (x ∷ y ∷ ys) ≡ Some z) × (f z ≡ m)) (sym top)
+          (rest.0, cond-false _ (Some x) (find (λ w. f w == n) (y ∷ ys)) differ ∙ rest.1, rest.2)
       | inr more ↦
           let top : max (f x) n ≡ f x = grind arith in
-          subst (λ m. (z : Error) × (find (λ w. f w == m) (x ∷ y ∷ ys) ≡ Some z) × (f z ≡ m)) (sym top) (x, cond-true _ (Some x) (find (λ w. f w == f x) (y ∷ ys)) (eq-eqb (f x) (f x) refl), refl)
+          subst (λ m. (z : Error) × (find (λ w. f w == m) (x ∷ y ∷ ys) ≡ Some z) × (f z ≡ m)) (sym top)
+          (x, cond-true _ (Some x) (find (λ w. f w == f x) (y ∷ ys)) (eq-eqb (f x) (f x) refl), refl)
     ]
 
-pub count_attained : (f : Error → ℕ) (xs : List Error) → is_any xs ≡ true → 0 < count_by (λ y. f y == greatest_of f xs) xs
+pub count_attained : (f : Error → ℕ) (xs : List Error) → is_any xs ≡ true
+    → 0 < count_by (λ y. f y == greatest_of f xs) xs
 count_attained f xs h =
     let at = find_attained f xs h in
     find_counts (λ y. f y == greatest_of f xs) xs at.0 at.1
@@ -107,10 +114,12 @@ shown_greater xs e h =
     ∙ ap (λ o. option_or o (find (λ x. rank_of x == rank_of e) (e ∷ []))) (find_above rank_of (rank_of e) xs h)
     ∙ cond-true _ (Some e) None (eq-eqb (rank_of e) (rank_of e) refl)
 
-pub shown_not_greater : (xs : List Error) (e : Error) → is_any xs ≡ true → rank_of e ≤ greatest_of rank_of xs → shown (xs ++ e ∷ []) ≡ shown xs
+pub shown_not_greater : (xs : List Error) (e : Error) → is_any xs ≡ true → rank_of e ≤ greatest_of rank_of xs
+    → shown (xs ++ e ∷ []) ≡ shown xs
 unfolding shown
 shown_not_greater xs e any h =
-    let top : greatest_of rank_of (xs ++ e ∷ []) ≡ greatest_of rank_of xs = greatest_of-push rank_of xs e ∙ grind arith in
+    let top : greatest_of rank_of (xs ++ e ∷ []) ≡ greatest_of rank_of xs = greatest_of-push rank_of xs e
+    ∙ grind arith in
     let at = find_attained rank_of xs any in
     ap (λ n. find (λ x. rank_of x == n) (xs ++ e ∷ [])) top
     ∙ find-append (λ x. rank_of x == greatest_of rank_of xs) xs (e ∷ [])
@@ -118,7 +127,8 @@ shown_not_greater xs e any h =
     ∙ sym at.1
 
 -- where there is an error, one is shown, and it has the greatest rank
-pub shown_some : (xs : List Error) → is_any xs ≡ true → (x : Error) × (shown xs ≡ Some x) × (rank_of x ≡ greatest_of rank_of xs)
+pub shown_some : (xs : List Error) → is_any xs ≡ true → (x : Error) × (shown xs ≡ Some x)
+    × (rank_of x ≡ greatest_of rank_of xs)
 unfolding shown
 shown_some xs any = find_attained rank_of xs any
 
@@ -133,49 +143,65 @@ pub multiple_alone : (e : Error) → is_multiple (e ∷ []) ≡ false
 unfolding is_multiple greatest_of
 multiple_alone e =
     let same : max (severity_of e) 0 ≡ severity_of e = grind arith in
-    let one : 0 + cond (severity_of e == max (severity_of e) 0) 1 0 ≡ 1 = omega (arith, count_yes (severity_of e == max (severity_of e) 0) (eq-eqb _ _ (sym same))) in
+    let one : 0 + cond (severity_of e == max (severity_of e) 0) 1 0
+    ≡ 1 = omega (arith, count_yes (severity_of e == max (severity_of e) 0) (eq-eqb _ _ (sym same))) in
     ap (λ n. nat_lt 1 n) one
 
-pub multiple_greater : (xs : List Error) (e : Error) → greatest_of severity_of xs < severity_of e → is_multiple (xs ++ e ∷ []) ≡ false
+pub multiple_greater : (xs : List Error) (e : Error) → greatest_of severity_of xs < severity_of e
+    → is_multiple (xs ++ e ∷ []) ≡ false
 unfolding is_multiple
 multiple_greater xs e h =
-    let top : greatest_of severity_of (xs ++ e ∷ []) ≡ severity_of e = greatest_of-push severity_of xs e ∙ grind arith in
+    let top : greatest_of severity_of (xs ++ e ∷ []) ≡ severity_of e = greatest_of-push severity_of xs e
+    ∙ grind arith in
     let n = severity_of e in
-    let count : count_by (λ x. severity_of x == n) (xs ++ e ∷ []) ≡ 1 = sum_by_push (λ x. cond (severity_of x == n) 1 0) xs e ∙ omega (arith, count_above severity_of n xs h, count_yes (n == n) (eq-eqb n n refl)) in
+    let count : count_by (λ x. severity_of x == n) (xs ++ e ∷ [])
+    ≡ 1 = sum_by_push (λ x. cond (severity_of x == n) 1 0) xs e
+    ∙ omega (arith, count_above severity_of n xs h, count_yes (n == n) (eq-eqb n n refl)) in
     ap (λ m. nat_lt 1 (count_by (λ x. severity_of x == m) (xs ++ e ∷ []))) top ∙ ap (λ k. nat_lt 1 k) count
 
-pub multiple_equal : (xs : List Error) (e : Error) → is_any xs ≡ true → greatest_of severity_of xs ≡ severity_of e → is_multiple (xs ++ e ∷ []) ≡ true
+pub multiple_equal : (xs : List Error) (e : Error) → is_any xs ≡ true → greatest_of severity_of xs ≡ severity_of e
+    → is_multiple (xs ++ e ∷ []) ≡ true
 unfolding is_multiple
 multiple_equal xs e any h =
     let n = greatest_of severity_of xs in
     let top : greatest_of severity_of (xs ++ e ∷ []) ≡ n = greatest_of-push severity_of xs e ∙ grind arith in
-    let more : 1 < count_by (λ x. severity_of x == n) (xs ++ e ∷ []) = rw (sum_by_push (λ x. cond (severity_of x == n) 1 0) xs e) (omega (arith, count_attained severity_of xs any, count_yes (severity_of e == n) (eq-eqb _ _ (sym h)))) in
+    let more : 1 < count_by (λ x. severity_of x == n) (xs ++ e ∷ []) =
+    rw (sum_by_push (λ x. cond (severity_of x == n) 1 0) xs e)
+    (omega (arith, count_attained severity_of xs any, count_yes (severity_of e == n) (eq-eqb _ _ (sym h)))) in
     ap (λ m. nat_lt 1 (count_by (λ x. severity_of x == m) (xs ++ e ∷ []))) top ∙ lt-ltb _ _ more
 
-pub multiple_less : (xs : List Error) (e : Error) → severity_of e < greatest_of severity_of xs → is_multiple (xs ++ e ∷ []) ≡ is_multiple xs
+pub multiple_less : (xs : List Error) (e : Error) → severity_of e < greatest_of severity_of xs
+    → is_multiple (xs ++ e ∷ []) ≡ is_multiple xs
 unfolding is_multiple
 multiple_less xs e h =
     let n = greatest_of severity_of xs in
     let top : greatest_of severity_of (xs ++ e ∷ []) ≡ n = greatest_of-push severity_of xs e ∙ grind arith in
     let differ : (severity_of e == n) ≡ false = grind (arith, nat_tests) in
-    let count : count_by (λ x. severity_of x == n) (xs ++ e ∷ []) ≡ count_by (λ x. severity_of x == n) xs = sum_by_push (λ x. cond (severity_of x == n) 1 0) xs e ∙ omega (arith, count_no (severity_of e == n) differ) in
+    let count : count_by (λ x. severity_of x == n) (xs ++ e ∷ [])
+    ≡ count_by (λ x. severity_of x == n) xs = sum_by_push (λ x. cond (severity_of x == n) 1 0) xs e
+    ∙ omega (arith, count_no (severity_of e == n) differ) in
     ap (λ m. nat_lt 1 (count_by (λ x. severity_of x == m) (xs ++ e ∷ []))) top ∙ ap (λ k. nat_lt 1 k) count
 
 -- ---- Severities ----
 
-pub has_severity-push : (s : ℕ) (xs : List Error) (e : Error) → has_severity s (xs ++ e ∷ []) ≡ (has_severity s xs || severity_of e == s)
+pub has_severity-push : (s : ℕ) (xs : List Error) (e : Error) → has_severity s (xs ++ e ∷ [])
+    ≡ (has_severity s xs || severity_of e == s)
 unfolding has_severity
 has_severity-push s [] e = elim (severity_of e == s) as (λ b. (b || false) ≡ b) [ true ↦ refl | false ↦ refl ]
 has_severity-push s (x ∷ xs) e =
-    rw (has_severity-push s xs e) (elim (severity_of x == s) as (λ b. (b || (has_severity s xs || severity_of e == s)) ≡ ((b || has_severity s xs) || severity_of e == s)) [ true ↦ refl | false ↦ refl ])
+    rw (has_severity-push s xs e)
+    (elim (severity_of x == s) as (λ b. (b || (has_severity s xs || severity_of e == s))
+    ≡ ((b || has_severity s xs) || severity_of e == s)) [ true ↦ refl | false ↦ refl ])
 
-found_has : (s : ℕ) (xs : List Error) (x : Error) → find (λ y. severity_of y == s) xs ≡ Some x → has_severity s xs ≡ true
+found_has : (s : ℕ) (xs : List Error) (x : Error) → find (λ y. severity_of y == s) xs ≡ Some x
+    → has_severity s xs ≡ true
 unfolding has_severity
 found_has s [] x h = absurd (none-some x h)
 found_has s (y ∷ ys) x h =
     elim (cases_Bool (severity_of y == s)) as (λ _. (severity_of y == s || has_severity s ys) ≡ true) [
       | inl yes_here ↦ or_left _ _ yes_here
-      | inr not_here ↦ or_right _ _ (found_has s ys x (sym (cond-false _ (Some y) (find (λ z. severity_of z == s) ys) not_here) ∙ h))
+      | inr not_here ↦
+          or_right _ _ (found_has s ys x (sym (cond-false _ (Some y) (find (λ z. severity_of z == s) ys) not_here) ∙ h))
     ]
 
 pub has_greatest : (xs : List Error) → is_any xs ≡ true → has_severity (greatest_of severity_of xs) xs ≡ true
@@ -188,7 +214,8 @@ unfolding has_severity greatest_of
 has_none_above s [] h = refl
 has_none_above s (x ∷ xs) h =
     let less : severity_of x < s = omega (arith, le-max_left (severity_of x) (greatest_of severity_of xs)) in
-    let rest : greatest_of severity_of xs < s = omega (arith, le-max_right (severity_of x) (greatest_of severity_of xs)) in
+    let rest : greatest_of severity_of xs < s =
+    omega (arith, le-max_right (severity_of x) (greatest_of severity_of xs)) in
     let differ : (severity_of x == s) ≡ false = grind (arith, nat_tests) in
     or_from _ _ differ (has_none_above s xs rest)
 
@@ -207,7 +234,8 @@ unfolding greatest_of
 greatest_le [] = omega arith
 greatest_le (x ∷ xs) = max-le (severity_le x) (greatest_le xs)
 
-pub found_le : (f : Error → ℕ) (p : Error → Bool) (xs : List Error) (x : Error) → find p xs ≡ Some x → f x ≤ greatest_of f xs
+pub found_le : (f : Error → ℕ) (p : Error → Bool) (xs : List Error) (x : Error) → find p xs ≡ Some x
+    → f x ≤ greatest_of f xs
 unfolding greatest_of
 found_le f p [] x h = absurd (none-some x h)
 found_le f p (y ∷ ys) x h =
@@ -227,11 +255,13 @@ abbrev pub StepsBelow : ℕ → List Error → Type 0
 StepsBelow step [] = Unit {0}
 StepsBelow step (error ∷ errors) = (error.step < step) × StepsBelow step errors
 
-pub StepsBelow-push : (step : ℕ) (xs : List Error) (e : Error) → StepsBelow step xs → e.step < step → StepsBelow step (xs ++ e ∷ [])
+pub StepsBelow-push : (step : ℕ) (xs : List Error) (e : Error) → StepsBelow step xs → e.step < step
+    → StepsBelow step (xs ++ e ∷ [])
 StepsBelow-push step [] e h k = (k, tt)
 StepsBelow-push step (x ∷ xs) e h k = (h.0, StepsBelow-push step xs e h.1 k)
 
-pub found_before : (step : ℕ) (p : Error → Bool) (xs : List Error) (x : Error) → StepsBelow step xs → find p xs ≡ Some x → x.step < step
+pub found_before : (step : ℕ) (p : Error → Bool) (xs : List Error) (x : Error) → StepsBelow step xs
+    → find p xs ≡ Some x → x.step < step
 found_before step p [] x b h = absurd (none-some x h)
 found_before step p (y ∷ ys) x b h =
     elim (cases_Bool (p y)) as (λ _. x.step < step) [

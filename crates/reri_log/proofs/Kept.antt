@@ -35,7 +35,9 @@ last_of_three : (a b : Bool) → (a || b || true) ≡ true
 last_of_three true b = refl
 last_of_three false b = last_of_two b
 
-bit_set : (severity : Severity) (fields : StatusFields) → ((with_severity severity fields).ce || (with_severity severity fields).ued || (with_severity severity fields).uec) ≡ true
+bit_set : (severity : Severity) (fields : StatusFields)
+    → ((with_severity severity fields).ce || (with_severity severity fields).ued
+    || (with_severity severity fields).uec) ≡ true
 unfolding with_severity
 bit_set Ce fields = refl
 bit_set Ued fields = middle_of_three fields.ce fields.uec
@@ -65,23 +67,36 @@ entered_set fields report =
     elim (cases_Bool (wins fields report)) as (λ _. IsSet (entered fields report)) [
       | inl won ↦ rw won (record { valid = refl; bit = bit_set report.severity fields })
       | inr lost ↦
-          rw lost (record { valid = valid_stays report.severity fields ∙ lost_valid fields report lost; bit = bit_set report.severity fields })
+          rw lost (record {
+            valid = valid_stays report.severity fields
+                ∙ lost_valid fields report lost;
+            bit = bit_set report.severity fields;
+          })
     ]
 
-counted_matched : (control : ℕ) (fields : StatusFields) (report : Report) → IsMatched fields → IsMatched (count_after control fields report)
+counted_matched : (control : ℕ) (fields : StatusFields) (report : Report) → IsMatched fields
+    → IsMatched (count_after control fields report)
 unfolding count_after
 counted_matched control fields report h =
-    elim (is_counted control report) as (λ b. IsMatched (cond b (cond (nat_lt fields.count 65535) (record fields { count = fields.count + 1 }) (record fields { count = 0; overflow = true })) fields)) [
+    elim (is_counted control report) as (λ b. IsMatched
+    (cond b (cond (nat_lt fields.count 65535) (record fields { count = fields.count + 1 })
+    (record fields { count = 0; overflow = true })) fields)) [
       | true ↦
-          elim (nat_lt fields.count 65535) as (λ b. IsMatched (cond b (record fields { count = fields.count + 1 }) (record fields { count = 0; overflow = true }))) [ true ↦ h | false ↦ h ]
+          elim (nat_lt fields.count 65535) as (λ b. IsMatched
+          (cond b (record fields { count = fields.count + 1 }) (record fields { count = 0; overflow = true }))) [
+            | true ↦ h
+            | false ↦ h
+          ]
       | false ↦ h
     ]
 
-after_matched : (control : ℕ) (fields : StatusFields) (report : Report) → IsMatched fields → IsMatched (fields_after control fields report)
+after_matched : (control : ℕ) (fields : StatusFields) (report : Report) → IsMatched fields
+    → IsMatched (fields_after control fields report)
 unfolding fields_after
 after_matched control fields report h =
     let counted = count_after control fields report in
-    elim (control_fields control).enable as (λ b. IsMatched (cond b (cond (stays_counted control fields report) counted (entered counted report)) fields)) [
+    elim (control_fields control).enable as (λ b. IsMatched
+    (cond b (cond (stays_counted control fields report) counted (entered counted report)) fields)) [
       | true ↦
           elim (stays_counted control fields report) as (λ b. IsMatched (cond b counted (entered counted report))) [
             | true ↦ counted_matched control fields report h
@@ -90,7 +105,8 @@ after_matched control fields report h =
       | false ↦ h
     ]
 
-pub updates_keep : (old : RecordCopy) (report : Report) (new : RecordCopy) (answer : Logged) → Updates old report new answer → IsRecord old → IsRecord new
+pub updates_keep : (old : RecordCopy) (report : Report) (new : RecordCopy) (answer : Logged)
+    → Updates old report new answer → IsRecord old → IsRecord new
 updates_keep old report new answer u is =
     record {
       valid = subst IsMatched (sym u.status) (after_matched old.control (status_fields old.status) report is.valid);

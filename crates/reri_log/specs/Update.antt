@@ -22,12 +22,15 @@ rank severity priority = 4 * severity_number severity + priority
 -- whether an error takes the place of the shown one
 unfoldable pub wins : StatusFields → Report → Bool
 wins fields report =
-    option_map_or (λ severity. nat_lt (rank severity fields.priority) (rank report.severity report.priority)) (top fields) true
+    option_map_or (λ severity. nat_lt (rank severity fields.priority) (rank report.severity report.priority))
+    (top fields) true
 
 -- multiple occurrence: off at a greater severity than all before, on at an equal one, else as it was
 unfoldable pub multiple_after : StatusFields → Severity → Bool
 multiple_after fields severity =
-    option_map_or (λ before. if nat_lt (severity_number before) (severity_number severity) then false else if severity_number before == severity_number severity then true else fields.multiple) (top fields) false
+    option_map_or
+    (λ before. if nat_lt (severity_number before) (severity_number severity) then false else if severity_number
+    before == severity_number severity then true else fields.multiple) (top fields) false
 
 unfoldable pub with_severity : Severity → StatusFields → StatusFields
 with_severity Ce fields = record fields { ce = true }
@@ -40,7 +43,8 @@ marked fields severity = record (with_severity severity fields) { multiple = mul
 
 -- the fields that tell of the shown error
 unfoldable pub filled : StatusFields → Report → StatusFields
-filled fields report = record fields { valid = true; priority = report.priority; code = report.code; in_progress = false }
+filled fields report =
+    record fields { valid = true; priority = report.priority; code = report.code; in_progress = false }
 
 -- the status fields once an error is logged
 unfoldable pub entered : StatusFields → Report → StatusFields
@@ -79,7 +83,8 @@ is_written Counted = false
 is_written (Wrote level) = true
 is_written Kept = false
 
--- The registers after an error was counted, where the record counts it. `alone` says whether nothing more is to be done.
+-- The registers after an error was counted, where the record counts it. `alone` says whether nothing more is to be
+-- done.
 pub record CountsUp (old : RecordCopy) (report : Report) (new : RecordCopy) (alone : Bool) : Type 0 where
   pub answered : alone ≡ stays_counted old.control (status_fields old.status) report
   pub status : status_fields new.status ≡ count_after old.control (status_fields old.status) report
@@ -88,7 +93,9 @@ pub record CountsUp (old : RecordCopy) (report : Report) (new : RecordCopy) (alo
 
 -- the registers after an error was entered into them, and whether it wrote or was kept out
 pub record EntersInto (old : RecordCopy) (report : Report) (new : RecordCopy) (answer : Logged) : Type 0 where
-  pub answered : answer ≡ (if wins (status_fields old.status) report then Wrote (level_of (control_fields old.control) report.severity) else Kept)
+  pub answered : answer
+      ≡ (if wins (status_fields old.status) report then Wrote (level_of (control_fields old.control) report.severity)
+      else Kept)
   pub control : new.control ≡ old.control
   pub status : status_fields new.status ≡ entered (status_fields old.status) report
   pub others : status_spare new.status ≡ status_spare old.status

@@ -15,7 +15,7 @@ ghost use Rattle.reri_fields.specs.Words.{copy_at, OneRecordChanges};
 ghost use Rattle.reri_log.specs.Update.{Updates, CountsUp, EntersInto, top, rank, wins, multiple_after, with_severity, marked, filled};
 
 pub use reri_fields::Logged;
-use reri_fields::{put_record, record_at, Control, RecordCopy, Report, Severity, Status};
+use reri_fields::{Control, RecordCopy, Report, Severity, Status, put_record, record_at};
 
 /// Logs one error into a record's registers, and says what became of it.
 ///

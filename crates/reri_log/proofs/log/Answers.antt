@@ -18,7 +18,8 @@ pub returns-then-not-enable-clause-answer : goal.returns-then-not-enable-clause-
 returns-then-not-enable-clause-answer c = logged_answer _ _ _ _ (off c)
 
 counted_up : (c : Then-count_up) → Updates c.args.rec.now c.args.report.now c.count_up.new.rec Counted
-counted_up c = updates_counted _ _ _ _ (sym c.enable.ensures ∙ c.if-not-enable.false) c.count_up.ensures c.if-count_up.true
+counted_up c = updates_counted _ _ _ _ (sym c.enable.ensures ∙ c.if-not-enable.false) c.count_up.ensures
+    c.if-count_up.true
 
 pub returns-then-count_up-clause-registers : goal.returns-then-count_up-clause-registers
 returns-then-count_up-clause-registers c = counted_up c
@@ -30,10 +31,15 @@ pub returns-then-count_up-clause-answer : goal.returns-then-count_up-clause-answ
 returns-then-count_up-clause-answer c = logged_answer _ _ _ _ (counted_up c)
 
 pub returns-clause-registers : goal.returns-clause-registers
-returns-clause-registers c = updates_entered _ _ _ _ _ _ (sym c.enable.ensures ∙ c.if-not-enable.false) c.count_up.ensures c.if-count_up.false c.enter.ensures
+returns-clause-registers c = updates_entered _ _ _ _ _ _ (sym c.enable.ensures ∙ c.if-not-enable.false)
+    c.count_up.ensures c.if-count_up.false c.enter.ensures
 
 pub returns-clause-stands : goal.returns-clause-stands
-returns-clause-stands c = logged_stands _ _ _ _ (updates_entered _ _ _ _ _ _ (sym c.enable.ensures ∙ c.if-not-enable.false) c.count_up.ensures c.if-count_up.false c.enter.ensures)
+returns-clause-stands c = logged_stands _ _ _ _
+    (updates_entered _ _ _ _ _ _ (sym c.enable.ensures ∙ c.if-not-enable.false) c.count_up.ensures c.if-count_up.false
+    c.enter.ensures)
 
 pub returns-clause-answer : goal.returns-clause-answer
-returns-clause-answer c = logged_answer _ _ _ _ (updates_entered _ _ _ _ _ _ (sym c.enable.ensures ∙ c.if-not-enable.false) c.count_up.ensures c.if-count_up.false c.enter.ensures)
+returns-clause-answer c = logged_answer _ _ _ _
+    (updates_entered _ _ _ _ _ _ (sym c.enable.ensures ∙ c.if-not-enable.false) c.count_up.ensures c.if-count_up.false
+    c.enter.ensures)

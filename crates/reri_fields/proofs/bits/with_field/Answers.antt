@@ -21,18 +21,22 @@ mask_fits : (low width : ℕ) → low + width ≤ 64 → (2 ^ width - 1) * 2 ^ l
 mask_fits low width inside =
     let small : 2 ^ width - 1 < 2 ^ width = omega (arith, pow_pos width) in
     let below : (2 ^ width - 1) * 2 ^ low < 2 ^ (width + low) = shl_below (2 ^ width - 1) width low small in
-    let bound : 2 ^ (width + low) ≤ 2 ^ 64 = pow-le-pow_right {n = 2} (lit< tt) {i = width + low} {j = 64} (omega arith) in
+    let bound : 2 ^ (width + low) ≤ 2 ^ 64 = pow-le-pow_right {n = 2} (lit< tt) {i = width + low} {j = 64}
+    (omega arith) in
     omega arith
 
 -- the word without the bits
 cleared : (word low width : ℕ) → word < 2 ^ 64 → low + width ≤ 64
-    → bit_and word (2 ^ 64 - 1 - (2 ^ width - 1) * 2 ^ low) ≡ word / 2 ^ (low + width) * 2 ^ (low + width) + word % 2 ^ low
+    → bit_and word (2 ^ 64 - 1 - (2 ^ width - 1) * 2 ^ low)
+    ≡ word / 2 ^ (low + width) * 2 ^ (low + width) + word % 2 ^ low
 cleared word low width fits inside =
     let mask : ℕ = (2 ^ width - 1) * 2 ^ low in
     let under : bit_and mask word ≡ word / 2 ^ low % 2 ^ width * 2 ^ low =
     and_comm mask word ∙ ap (λ n. bit_and word n) (mask_of low width) ∙ and_high word width low in
-    let parts : bit_and (2 ^ 64 - 1 - mask) word + bit_and mask word ≡ word = and-not 64 mask word (mask_fits low width inside) fits in
-    let whole : word / 2 ^ (low + width) * 2 ^ (low + width) + word % 2 ^ (low + width) ≡ word = shr_split word (low + width) in
+    let parts : bit_and (2 ^ 64 - 1 - mask) word + bit_and mask word
+    ≡ word = and-not 64 mask word (mask_fits low width inside) fits in
+    let whole : word / 2 ^ (low + width) * 2 ^ (low + width) + word % 2 ^ (low + width)
+    ≡ word = shr_split word (low + width) in
     let rest : word % 2 ^ (low + width) ≡ word / 2 ^ low % 2 ^ width * 2 ^ low + word % 2 ^ low =
     ap (λ n. word % 2 ^ n) (add_comm low width) ∙ mod-pow-add word width low in
     and_comm word (2 ^ 64 - 1 - mask) ∙ omega arith
@@ -42,7 +46,8 @@ joined : (high low width value rest : ℕ) → value < 2 ^ width → rest < 2 ^ 
     → bit_or (high * 2 ^ (low + width) + rest) (value * 2 ^ low) ≡ (high * 2 ^ width + value) * 2 ^ low + rest
 joined high low width value rest fits below =
     let moved : (h p q r : ℕ) → h * (p * q) + r ≡ h * q * p + r = λ h p q r. omega arith in
-    let first : high * 2 ^ (low + width) + rest ≡ high * 2 ^ width * 2 ^ low + rest = rw (pow-add 2 low width) (moved high (2 ^ low) (2 ^ width) rest) in
+    let first : high * 2 ^ (low + width) + rest
+    ≡ high * 2 ^ width * 2 ^ low + rest = rw (pow-add 2 low width) (moved high (2 ^ low) (2 ^ width) rest) in
     let second : value * 2 ^ low ≡ value * 2 ^ low + 0 = omega arith in
     ap (λ n. bit_or n (value * 2 ^ low)) first
     ∙ ap (λ n. bit_or (high * 2 ^ width * 2 ^ low + rest) n) second
@@ -58,8 +63,11 @@ returns c =
     let value : ℕ = c.args.value in
     let small : 2 ^ width - 1 < 2 ^ width = omega (arith, pow_pos width) in
     let one : 1 * 2 ^ width % 2 ^ 64 ≡ 2 ^ width = one_shl width 64 c.requires.narrow in
-    let mask : (2 ^ width - 1) * 2 ^ low % 2 ^ 64 ≡ (2 ^ width - 1) * 2 ^ low = shl_whole (2 ^ width - 1) width low 64 small (omega arith) in
-    let shifted : value * 2 ^ low % 2 ^ 64 ≡ value * 2 ^ low = shl_whole value width low 64 c.requires.fits (omega arith) in
+    let mask : (2 ^ width - 1) * 2 ^ low % 2 ^ 64
+    ≡ (2 ^ width - 1) * 2 ^ low = shl_whole (2 ^ width - 1) width low 64 small (omega arith) in
+    let shifted : value * 2 ^ low % 2 ^ 64
+    ≡ value * 2 ^ low = shl_whole value width low 64 c.requires.fits (omega arith) in
     rw (one, mask, shifted, cleared word low width (omega arith) c.requires.inside)
-    (joined (word / 2 ^ (low + width)) low width value (word % 2 ^ low) c.requires.fits (mod_below word (2 ^ low) (pow_pos low))
+    (joined (word / 2 ^ (low + width)) low width value (word % 2 ^ low) c.requires.fits
+    (mod_below word (2 ^ low) (pow_pos low))
     ∙ sym (split word low width value))

@@ -1,3 +1,4 @@
+-- The flag alone is taken back.
 use Rattle.std.proofs.Common.{sym, subst}
 use Rattle.reri_fields.specs.Banks.{BankStands}
 use Rattle.reri_bank.proofs.Stands.{scan_over_keeps}

@@ -1,42 +1,43 @@
-use Rattle.std.proofs.Common.{◌≤◌, refl, sym, ap, subst, Some, length, set, ◌∷◌, ◌||◌, nat_lt, arith}
-use Rattle.std.proofs.lemmas.Option.{slice_get_read, slice_get_within}
+-- An error is logged into its record, or names none.
+use Rattle.std.proofs.Common.{◌≤◌, ap, sym, ◌∙◌, ◌||◌, nat_lt, subst, Some, length, arith}
+use Rattle.std.proofs.lemmas.Option.{slice_get_within}
 use Rattle.reri_fields.specs.Records.{Error}
-use Rattle.reri_fields.specs.Banks.{BankStands}
-use Rattle.reri_fields.specs.Banks.BankEvent.{Logs}
-use Rattle.reri_bank.specs.Registers.{OneChanges}
 use Rattle.reri_log.specs.Update.{Updates}
-use Rattle.reri_bank.proofs.Stands.{log_keeps, log_nowhere, log_answer}
+use Rattle.reri_bank.specs.Registers.{OneChanges}
+use Rattle.reri_bank.proofs.Stands.{log_nowhere, logged_bank, logged_here}
 use Rattle.reri_bank.proofs.bank.Bank.report.Goals as goal
+use Rattle.reri_bank.proofs.bank.Bank.report.Goals.{Then-report-self}
 
-pub returns-then-at-len-clause-stands : goal.returns-then-at-len-clause-stands
-returns-then-at-len-clause-stands c =
+past : (c : Then-report-self) → length c.args.self.now.copies ≤ c.args.report.now.rec
+past c = subst (λ v. length v.copies ≤ c.args.report.now.rec) c.self.view_is (omega (arith, c.self.invariant.1))
+
+pub returns-then-report-self-clause-stands : goal.returns-then-report-self-clause-stands
+returns-then-report-self-clause-stands c =
     λ origins history step early s.
-    log_nowhere origins history (record { step = step; report = c.args.report.now }) _ early s (subst (λ v. length v.copies ≤ c.args.report.now.rec) c.self.view_is (omega (arith, c.self.inside.records.ok.0)))
+    log_nowhere origins history (record { step = step; report = c.args.report.now }) _ early s (past c)
 
-pub returns-then-at-len-clause-answer : goal.returns-then-at-len-clause-answer
-returns-then-at-len-clause-answer c =
+pub returns-then-report-self-clause-answer : goal.returns-then-report-self-clause-answer
+returns-then-report-self-clause-answer c =
     λ origins history step origin early s h.
-    let past : length c.args.self.now.copies ≤ c.args.report.now.rec = subst (λ v. length v.copies ≤ c.args.report.now.rec) c.self.view_is (omega (arith, c.self.inside.records.ok.0)) in
     let within = slice_get_within origins c.args.report.now.rec origin h in
-    absurd (omega (arith, s.count))
+    absurd (omega (arith, s.count, past c))
 
 pub returns-clause-stands : goal.returns-clause-stands
 returns-clause-stands c =
     λ origins history step early s.
-    let was = slice_get_read c.self.inside.records.items (length c.self.inside.records.items) c.args.report.now.rec c.index_mut.result.now refl (omega (arith, c.self.inside.records.ok.0)) c.index_mut.ensures.value in
-    let copies = set c.self.inside.records.items c.args.report.now.rec c.log-answer.new.rec in
     let e : Error = record { step = step; report = c.args.report.now } in
-    let kept = log_keeps origins history e _ early (subst (λ v. BankStands origins history v) (sym c.self.view_is) s) _ _ _ was c.log-answer.ensures.registers in
-    subst (λ n. BankStands origins (Logs e ∷ history) (record { copies = copies; asks = c.self.inside.asks || nat_lt 0 n })) (sym c.level.ensures) kept
+    let one =
+    subst (λ v. OneChanges (λ old new. Updates old c.args.report.now new c.log_at-answer.result)
+    c.args.report.now.rec c.args.self.now.copies v.copies) (sym c.self-2.view_is) c.log_at-answer.ensures.records in
+    let asking = ap (λ v. v.asks || nat_lt 0 c.level.result) c.self-2.view_is
+    ∙ ap (λ b. b || nat_lt 0 c.level.result) c.log_at-answer.ensures.asking
+    ∙ ap (λ n. c.args.self.now.asks || nat_lt 0 n) c.level.ensures in
+    logged_bank origins history e c.args.self.now _ c.log_at-answer.result early s one asking
 
 pub returns-clause-answer : goal.returns-clause-answer
 returns-clause-answer c =
     λ origins history step origin early s h.
-    let was = slice_get_read c.self.inside.records.items (length c.self.inside.records.items) c.args.report.now.rec c.index_mut.result.now refl (omega (arith, c.self.inside.records.ok.0)) c.index_mut.ensures.value in
     let e : Error = record { step = step; report = c.args.report.now } in
-    ap (λ x. Some x) (log_answer origins history e _ early (subst (λ v. BankStands origins history v) (sym c.self.view_is) s) _ _ _ origin was c.log-answer.ensures.registers h)
-
-pub returns-clause-records : goal.returns-clause-records
-returns-clause-records c =
-    let was = slice_get_read c.self.inside.records.items (length c.self.inside.records.items) c.args.report.now.rec c.index_mut.result.now refl (omega (arith, c.self.inside.records.ok.0)) c.index_mut.ensures.value in
-    subst (λ v. OneChanges (λ old new. Updates old c.args.report.now new c.log-answer.result) c.args.report.now.rec v.copies (set c.self.inside.records.items c.args.report.now.rec c.log-answer.new.rec)) c.self.view_is (record { before = _; after = c.log-answer.new.rec; was = was; is = refl; changes = c.log-answer.ensures.registers })
+    ap (λ x. Some x)
+    (logged_here origins history e c.args.self.now c.log_at-answer.new.self c.log_at-answer.result origin early s
+    c.log_at-answer.ensures.records h)

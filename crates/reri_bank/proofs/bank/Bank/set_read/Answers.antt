@@ -1,33 +1,34 @@
-use Rattle.std.proofs.Common.{◌≡◌, ◌≤◌, refl, sym, ap, ◌∙◌, subst, slice_get, Some, length, set, arith}
+-- A record is claimed, or there is none of that number.
+use Rattle.std.proofs.Common.{sym, ap, ◌∙◌, subst, slice_get, ◌∷◌}
 use Rattle.std.specs.Option.{option_map}
-use Rattle.std.proofs.lemmas.Option.{slice_get_read, get_or_from_slice_get}
+use Rattle.std.proofs.lemmas.Option.{slice_get_within}
 use Rattle.reri_fields.specs.Banks.{BankStands}
-use Rattle.reri_bank.specs.Registers.{OneChanges, IsClaimed}
-use Rattle.reri_bank.proofs.Stands.{claim_keeps, claim_nowhere, get-set_same}
+use Rattle.reri_fields.specs.Banks.BankEvent.{Claims}
+use Rattle.reri_bank.proofs.Stands.{claim_keeps, claim_nowhere, get_nowhere, get-set_same}
+use Rattle.reri_bank.proofs.Claimed.{claim_kept}
 use Rattle.reri_bank.proofs.bank.Bank.set_read.Goals as goal
-use Rattle.reri_bank.proofs.bank.Bank.set_read.Goals.{After-index}
 
-pub returns-then-at-len-clause-stands : goal.returns-then-at-len-clause-stands
-returns-then-at-len-clause-stands c =
+pub returns-in_err-copy-clause-stands : goal.returns-in_err-copy-clause-stands
+returns-in_err-copy-clause-stands c =
     λ origins history s.
-    claim_nowhere origins history _ _ s (subst (λ v. length v.copies ≤ c.args.rec) c.self.view_is (omega (arith, c.self.inside.records.ok.0)))
+    claim_nowhere origins history c.args.rec _ s (get_nowhere _ c.args.rec (sym c.in_err-copy.ensures.value))
 
--- the record that is lent
-was : (c : After-index) → slice_get c.self.inside.records.items c.args.rec ≡ Some c.index_mut.result.now
-was c =
-    slice_get_read c.self.inside.records.items (length c.self.inside.records.items) c.args.rec _ refl (omega (arith, c.self.inside.records.ok.0)) c.index_mut.ensures.value
+pub put-requires-clause-there : goal.put-requires-clause-there
+put-requires-clause-there c = slice_get_within _ c.args.rec c.in_ok-copy.copy (sym c.in_ok-copy.ensures.value)
+
+pub put-requires-clause-kept : goal.put-requires-clause-kept
+put-requires-clause-kept c = claim_kept c.in_ok-copy.copy c.claim.new.rec c.claim.ensures c.in_ok-copy.ensures.kept
 
 pub returns-clause-value : goal.returns-clause-value
 returns-clause-value c =
-    let now = get-set_same c.self.inside.records.items c.args.rec c.claim.new.rec (omega (arith, c.self.inside.records.ok.0)) in
-    let same : c.index.result.now ≡ c.claim.new.rec = c.index.ensures ∙ get_or_from_slice_get _ c.args.rec _ c.index.result.now now in
-    ap (option_map (λ copy. copy.status)) now ∙ ap (λ r. Some r.status) (sym same)
+    ap (λ v. option_map (λ copy. copy.status) (slice_get v.copies c.args.rec)) c.put.ensures
+    ∙ ap (option_map (λ copy. copy.status))
+    (get-set_same c.args.self.now.copies c.args.rec c.claim.new.rec
+    (slice_get_within _ c.args.rec c.in_ok-copy.copy (sym c.in_ok-copy.ensures.value)))
 
 pub returns-clause-stands : goal.returns-clause-stands
 returns-clause-stands c =
     λ origins history s.
-    claim_keeps origins history c.args.rec _ _ _ (subst (λ v. BankStands origins history v) (sym c.self.view_is) s) (was c) c.claim.ensures
-
-pub returns-clause-records : goal.returns-clause-records
-returns-clause-records c =
-    subst (λ v. OneChanges IsClaimed c.args.rec v.copies (set c.self.inside.records.items c.args.rec c.claim.new.rec)) c.self.view_is (record { before = _; after = c.claim.new.rec; was = was c; is = refl; changes = c.claim.ensures })
+    subst (BankStands origins (Claims c.args.rec ∷ history)) (sym c.put.ensures)
+    (claim_keeps origins history c.args.rec c.in_ok-copy.copy c.claim.new.rec c.args.self.now s
+    (sym c.in_ok-copy.ensures.value) c.claim.ensures)
