@@ -92,6 +92,11 @@ report_words r =
     codes "error" ∷ decimal r.bank ∷ decimal r.rec ∷ severity_word r.severity ∷ decimal r.priority ∷ decimal r.code
     ∷ hexadecimal r.address ∷ hexadecimal r.info ∷ hexadecimal r.supplement ∷ hexadecimal r.time ∷ []
 
+-- each word behind a space
+abbrev pub after_spaces : List (List ℕ) → List ℕ
+after_spaces [] = []
+after_spaces (w ∷ ws) = 32 ∷ (w ++ after_spaces ws)
+
 -- ---- Notes ----
 
 -- the words of a note; an actor that had no step has none

@@ -1,0 +1,2 @@
+-- Lemmas on the words of a line.
+pub mod Spaces
