@@ -1,5 +1,5 @@
 -- Small plans, for the worked runs.
-use Rattle.std.specs.Prelude.{ℕ, ◌+◌, true, false, List, [], ◌∷◌, map, replicate, length, slice_index_or, None}
+use Rattle.std.specs.Prelude.{ℕ, ◌+◌, Bool, true, false, List, [], ◌∷◌, map, replicate, length, slice_index_or, None}
 use Rattle.sse_base.specs.declared.codes.SbiCode.TheVariants.{Success}
 use Rattle.sse_base.specs.declared.events.EventDecl.{EventDecl}
 use Rattle.reri_fields.specs.declared.severity.Severity.{Severity}
@@ -18,7 +18,11 @@ use Rattle.board_plan.specs.declared.plan.RecDecl.{RecDecl}
 use Rattle.board_plan.specs.declared.plan.Start.{Start}
 use Rattle.board_plan.specs.declared.plan.Reporter as plan_reporter
 use Rattle.board_plan.specs.declared.plan.Plan.{Plan}
+use Rattle.board_plan.specs.State.{BoardState}
 use Rattle.board_plan.specs.Run.{Noted, lists}
+use Rattle.sse_base.specs.declared.contexts.Privilege.{Privilege}
+use Rattle.sse_base.specs.Contexts.{Context, Triple, top_triple}
+use Rattle.sse_base.specs.Machine.{stack_of}
 
 -- ---- Parts of plans ----
 
@@ -128,3 +132,18 @@ called fid args = note.Call 0x535345 fid (five args) Success (replicate 10 0)
 -- the four registers that a drain reads on its own
 abbrev pub reads : ℕ → ℕ → List StepNote
 reads bank rec = note.Read bank rec 2 ∷ note.Read bank rec 3 ∷ note.Read bank rec 4 ∷ note.Read bank rec 5 ∷ []
+
+-- ---- What a hart runs ----
+
+abbrev pub context : ℕ → Privilege → Bool → ℕ → ℕ → Context
+context pc privilege sie a6 a7 = record { pc = pc; privilege = privilege; sie = sie; a6 = a6; a7 = a7 }
+
+abbrev pub triple : ℕ → Privilege → Bool → Triple
+triple sepc spp spie = record { sepc = sepc; spp = spp; spie = spie }
+
+abbrev pub live_on : ℕ → BoardState → Context
+live_on h s = (stack_of h s.machine).live
+
+-- sepc, spp and spie
+abbrev pub below_on : ℕ → BoardState → Triple
+below_on h s = top_triple (stack_of h s.machine)
