@@ -17,7 +17,8 @@ digits_from (suc count) place number =
     let next : number / 256 ^ suc place ≡ number / 256 ^ place / 256 =
     ap (λ n. number / n) (pow-suc 256 place) ∙ sym (div-div-eq-div-mul number (256 ^ place) 256) in
     ap (λ byte. byte ∷ bytes_low_first (suc place) count number) (byte_there place number)
-    ∙ ap (λ rest. number / 256 ^ place % 256 ∷ rest) (digits_from count (suc place) number ∙ ap (λ n. digits count n) next)
+    ∙ ap (λ rest. number / 256 ^ place % 256 ∷ rest) (digits_from count (suc place) number
+    ∙ ap (λ n. digits count n) next)
 
 pub digits_are : (count number : ℕ) → digits count number ≡ little_bytes count number
 digits_are count number = ap (λ n. digits count n) (sym (div-one number)) ∙ sym (digits_from count 0 number)

@@ -52,8 +52,10 @@ unfolding slot_text
 slot_text_some [] some = absurd (omega arith)
 slot_text_some (copy ∷ copies) some = refl
 
-pub holds_more : (copies : List RecordCopy) (copy : RecordCopy) (more taken : List RecordCopy) (bytes out : List ℕ) (used new : ℕ) →
-    Holds copies bytes used → IsCopy copy → AreWords copy → more ≡ copies ++ copy ∷ [] → taken ≡ more → length more ≤ 4 →
+pub holds_more : (copies : List RecordCopy) (copy : RecordCopy) (more taken : List RecordCopy) (bytes out : List ℕ)
+    (used new : ℕ) →
+    Holds copies bytes used → IsCopy copy → AreWords copy → more ≡ copies ++ copy ∷ [] → taken ≡ more
+    → length more ≤ 4 →
     new ≡ length (spelling taken) → take new out ≡ spelling taken → Holds more out new
 holds_more copies copy more taken bytes out used new holds is words more_is taken_is few new_is text =
     let n : length more ≡ length copies + 1 = ap length more_is ∙ length-append copies (copy ∷ [])
@@ -66,8 +68,10 @@ holds_more copies copy more taken bytes out used new holds is words more_is take
     }
 
 -- one entry more is put
-pub next_put : (copies : List RecordCopy) (i place : ℕ) (copy : RecordCopy) (bytes old new : List ℕ) → i < length copies →
-    copy ≡ get_or copies i copy → bytes ≡ entry copy → take place old ≡ header copies ++ flat_map entry (take i copies) →
+pub next_put : (copies : List RecordCopy) (i place : ℕ) (copy : RecordCopy) (bytes old new : List ℕ)
+    → i < length copies →
+    copy ≡ get_or copies i copy → bytes ≡ entry copy → take place old ≡ header copies
+    ++ flat_map entry (take i copies) →
     take (place + length bytes) new ≡ take place old ++ bytes →
     take (place + 120) new ≡ header copies ++ flat_map entry (take (i + 1) copies)
 next_put copies i place copy bytes old new below copy_is bytes_are so_far put =
@@ -85,4 +89,5 @@ pub rest_put : (place : ℕ) (copy : RecordCopy) (bytes first old new : List ℕ
     drop (place + 120) new ≡ drop (place + 120) first
 rest_put place copy bytes first old new bytes_are so_far put =
     let n : length bytes ≡ 120 = ap length bytes_are ∙ length_entry copy
-    in ap (λ m. drop (place + m) new) (sym n) ∙ put ∙ ap (λ m. drop (place + m) old) n ∙ rest_further place 120 old first so_far
+    in ap (λ m. drop (place + m) new) (sym n) ∙ put ∙ ap (λ m. drop (place + m) old) n
+    ∙ rest_further place 120 old first so_far

@@ -15,25 +15,30 @@ use Rattle.ghes_block.proofs.Entries.{length_spelling}
 read_back : (number : ℕ) (rest : List ℕ) → number < 2 ^ 64 → little_number 8 (digits 8 number ++ rest) ≡ number
 read_back number rest fits = rw (digits_are 8 number) (little_number-reads_back 8 number rest fits)
 
-control_at : (copy : RecordCopy) (rest : List ℕ) → AreWords copy → little_number 8 (drop 72 (entry copy ++ rest)) ≡ copy.control
+control_at : (copy : RecordCopy) (rest : List ℕ) → AreWords copy → little_number 8 (drop 72 (entry copy ++ rest))
+    ≡ copy.control
 unfolding entry section section_type zeros digits
 control_at copy rest words =
     read_back copy.control
-    (digits 8 copy.status ++ digits 8 copy.address ++ digits 8 copy.info ++ digits 8 copy.supplement ++ digits 8 copy.time ++ rest)
+    (digits 8 copy.status ++ digits 8 copy.address ++ digits 8 copy.info ++ digits 8 copy.supplement
+    ++ digits 8 copy.time ++ rest)
     words.control
 
-status_at : (copy : RecordCopy) (rest : List ℕ) → AreWords copy → little_number 8 (drop 80 (entry copy ++ rest)) ≡ copy.status
+status_at : (copy : RecordCopy) (rest : List ℕ) → AreWords copy → little_number 8 (drop 80 (entry copy ++ rest))
+    ≡ copy.status
 unfolding entry section section_type zeros digits
 status_at copy rest words =
     read_back copy.status
     (digits 8 copy.address ++ digits 8 copy.info ++ digits 8 copy.supplement ++ digits 8 copy.time ++ rest) words.status
 
-address_at : (copy : RecordCopy) (rest : List ℕ) → AreWords copy → little_number 8 (drop 88 (entry copy ++ rest)) ≡ copy.address
+address_at : (copy : RecordCopy) (rest : List ℕ) → AreWords copy → little_number 8 (drop 88 (entry copy ++ rest))
+    ≡ copy.address
 unfolding entry section section_type zeros digits
 address_at copy rest words =
     read_back copy.address (digits 8 copy.info ++ digits 8 copy.supplement ++ digits 8 copy.time ++ rest) words.address
 
-info_at : (copy : RecordCopy) (rest : List ℕ) → AreWords copy → little_number 8 (drop 96 (entry copy ++ rest)) ≡ copy.info
+info_at : (copy : RecordCopy) (rest : List ℕ) → AreWords copy → little_number 8 (drop 96 (entry copy ++ rest))
+    ≡ copy.info
 unfolding entry section section_type zeros digits
 info_at copy rest words = read_back copy.info (digits 8 copy.supplement ++ digits 8 copy.time ++ rest) words.info
 
@@ -42,7 +47,8 @@ supplement_at : (copy : RecordCopy) (rest : List ℕ) → AreWords copy →
 unfolding entry section section_type zeros digits
 supplement_at copy rest words = read_back copy.supplement (digits 8 copy.time ++ rest) words.supplement
 
-time_at : (copy : RecordCopy) (rest : List ℕ) → AreWords copy → little_number 8 (drop 112 (entry copy ++ rest)) ≡ copy.time
+time_at : (copy : RecordCopy) (rest : List ℕ) → AreWords copy → little_number 8 (drop 112 (entry copy ++ rest))
+    ≡ copy.time
 unfolding entry section section_type zeros digits
 time_at copy rest words = read_back copy.time rest words.time
 
@@ -75,7 +81,8 @@ all_read (copy ∷ copies) are =
 
 -- the lengths of blocks
 
-pub length_spelled : (text : List ℕ) (copies : List RecordCopy) → Spells text copies → length text ≡ 20 + 120 * length copies
+pub length_spelled : (text : List ℕ) (copies : List RecordCopy) → Spells text copies
+    → length text ≡ 20 + 120 * length copies
 length_spelled text copies spells = ap length spells.same ∙ length_spelling copies
 
 -- a number of entries that a block may have
@@ -96,7 +103,8 @@ so_many (suc (suc (suc zero))) s f = refl
 so_many (suc (suc (suc (suc zero)))) s f = refl
 so_many (suc (suc (suc (suc (suc n))))) s f = absurd (omega arith)
 
-if_same : (b : Bool) (n count : ℕ) (o : Option ℕ) → (if b then Some n else o) ≡ Some count → ((b ≡ true) × (n ≡ count)) ⊎ (o ≡ Some count)
+if_same : (b : Bool) (n count : ℕ) (o : Option ℕ) → (if b then Some n else o) ≡ Some count
+    → ((b ≡ true) × (n ≡ count)) ⊎ (o ≡ Some count)
 if_same true n count o e = inl (refl, some_is n count e)
 if_same false n count o e = inr e
 
@@ -119,7 +127,8 @@ entries_are total count e =
     ]
 
 -- as many entries as the copies that a text spells
-pub entries_spelled : (text : List ℕ) (copies : List RecordCopy) → Spells text copies → entries_in (length text) ≡ Some (length copies)
+pub entries_spelled : (text : List ℕ) (copies : List RecordCopy) → Spells text copies → entries_in (length text)
+    ≡ Some (length copies)
 entries_spelled text copies spells =
     ap entries_in (length_spelled text copies spells) ∙ so_many (length copies) spells.some spells.few
 
@@ -129,20 +138,25 @@ pub spelled_read : (text : List ℕ) (copies : List RecordCopy) (count : ℕ) �
 unfolding spelling
 spelled_read text copies count known spells =
     let n : length copies ≡ count = some_is (length copies) count (sym (entries_spelled text copies spells) ∙ known)
-    in let t : drop 20 text ≡ flat_map entry copies = ap (drop 20) spells.same ∙ behind_header copies (flat_map entry copies)
-    in ap (λ m. registers_of m (drop 20 text)) (sym n) ∙ ap (registers_of (length copies)) t ∙ all_read copies spells.each
+    in let t : drop 20 text ≡ flat_map entry copies = ap (drop 20) spells.same
+    ∙ behind_header copies (flat_map entry copies)
+    in ap (λ m. registers_of m (drop 20 text)) (sym n) ∙ ap (registers_of (length copies)) t
+    ∙ all_read copies spells.each
 
 -- one entry more is read
 pub next_read : (count i : ℕ) (bytes : List ℕ) (all so_far more : List RecordCopy) (next : RecordCopy) → i < count →
-    all ≡ so_far ++ registers_of (count - i) (drop (20 + 120 * i) bytes) → next ≡ registers_in (take (length bytes - (20 + 120 * i)) (drop (20 + 120 * i) bytes)) →
+    all ≡ so_far ++ registers_of (count - i) (drop (20 + 120 * i) bytes)
+    → next ≡ registers_in (take (length bytes - (20 + 120 * i)) (drop (20 + 120 * i) bytes)) →
     more ≡ so_far ++ next ∷ [] → all ≡ more ++ registers_of (count - (i + 1)) (drop (20 + 120 * (i + 1)) bytes)
 unfolding registers_of
 next_read count i bytes all so_far more next below e next_is more_is =
     let n : count - i ≡ suc (count - (i + 1)) = omega arith
     in let here : List ℕ = drop (20 + 120 * i) bytes
     in let p : 20 + 120 * i + 120 ≡ 20 + 120 * (i + 1) = omega arith
-    in let d : drop 120 here ≡ drop (20 + 120 * (i + 1)) bytes = drop-drop 120 (20 + 120 * i) bytes ∙ ap (λ m. drop m bytes) p
-    in let whole : take (length bytes - (20 + 120 * i)) here ≡ here = take_all (length bytes - (20 + 120 * i)) here (omega (arith, length-drop (20 + 120 * i) bytes))
+    in let d : drop 120 here ≡ drop (20 + 120 * (i + 1)) bytes = drop-drop 120 (20 + 120 * i) bytes
+    ∙ ap (λ m. drop m bytes) p
+    in let whole : take (length bytes - (20 + 120 * i)) here ≡ here =
+    take_all (length bytes - (20 + 120 * i)) here (omega (arith, length-drop (20 + 120 * i) bytes))
     in let left : List RecordCopy = registers_of (count - (i + 1)) (drop (20 + 120 * (i + 1)) bytes)
     in e ∙ ap (λ m. so_far ++ registers_of m here) n
     ∙ ap (λ t. so_far ++ registers_in here ∷ registers_of (count - (i + 1)) t) d
@@ -159,7 +173,8 @@ last_read count i bytes all so_far past e =
     in sym (e ∙ ap (λ m. so_far ++ registers_of m (drop (20 + 120 * i) bytes)) n ∙ append-nil so_far)
 
 -- what is read is what the text spells, where its block is the text
-pub read_spells : (text : List ℕ) (copies : List RecordCopy) → 1 ≤ length copies → length copies ≤ 4 → AreCopies copies →
+pub read_spells : (text : List ℕ) (copies : List RecordCopy) → 1 ≤ length copies → length copies ≤ 4
+    → AreCopies copies →
     text ≡ spelling copies → Spells text copies
 read_spells text copies some few each same = record { some = some; few = few; each = each; same = same }
 

@@ -13,12 +13,14 @@ one_more_counted : (b rest : Bool) (copy : RecordCopy) (copies : List RecordCopy
 one_more_counted true rest copy copies e = grind (arith, nat_tests)
 one_more_counted false rest copy copies e = e
 
-any_filtered : (test : RecordCopy → Bool) (copies : List RecordCopy) → list_any test copies ≡ nat_lt 0 (length (filter test copies))
+any_filtered : (test : RecordCopy → Bool) (copies : List RecordCopy)
+    → list_any test copies ≡ nat_lt 0 (length (filter test copies))
 any_filtered test [] = refl
 any_filtered test (copy ∷ copies) =
     one_more_counted (test copy) (list_any test copies) copy (filter test copies) (any_filtered test copies)
 
-pub any_counted : (test : RecordCopy → Bool) (copies : List RecordCopy) → list_any test copies ≡ nat_lt 0 (count_by test copies)
+pub any_counted : (test : RecordCopy → Bool) (copies : List RecordCopy)
+    → list_any test copies ≡ nat_lt 0 (count_by test copies)
 any_counted test copies = any_filtered test copies ∙ ap (nat_lt 0) (length-filter test copies)
 
 sum_of_bits : (a b c d : Bool) (n : ℕ) →
@@ -43,13 +45,15 @@ sum_of_bits false false false false n = omega arith
 
 -- several of a kind: more than one, or one of which several errors came
 pub several_is : (corrected : Bool) (copies : List RecordCopy) →
-    are_several (is_of corrected) copies ≡ (nat_lt 1 (count_by (is_of corrected) copies) || list_any (is_repeated corrected) copies)
+    are_several (is_of corrected) copies ≡ (nat_lt 1 (count_by (is_of corrected) copies)
+    || list_any (is_repeated corrected) copies)
 unfolding is_repeated are_several
 several_is corrected copies = refl
 
 pub status_is : (copies : List RecordCopy) →
     (if list_any (is_of false) copies then 1 else 0) + (if are_several (is_of false) copies then 4 else 0)
-    + 2 * ((if list_any (is_of true) copies then 1 else 0) + (if are_several (is_of true) copies then 4 else 0)) + 16 * length copies
+    + 2 * ((if list_any (is_of true) copies then 1 else 0) + (if are_several (is_of true) copies then 4
+    else 0)) + 16 * length copies
     ≡ block_status copies
 unfolding is_of block_status
 status_is copies =

@@ -1,5 +1,5 @@
--- Registers read from entries that stand one behind the other, and copies of one kind. This describes the code; no public
--- clause cites it.
+-- Registers read from entries that stand one behind the other, and copies of one kind. This describes the code; no
+-- public clause cites it.
 use Rattle.std.specs.Prelude.{ℕ, zero, suc, Bool, true, false, ◌&&◌, ◌==◌, if◌then◌else◌, Option, Some, None, List, [], ◌∷◌, drop}
 use Rattle.byteorder.specs.Endian.{little_number}
 use Rattle.reri_fields.specs.declared.report.RecordCopy.{RecordCopy}

@@ -90,7 +90,8 @@ fn some_repeated(copies: &[RecordCopy], corrected: bool) -> bool
 /// several.
 #[tactic(auto, using(crate::proofs::StatusBits::any_counted, crate::proofs::StatusBits::several_is))]
 fn kind_bits(copies: &[RecordCopy], corrected: bool) -> u32
-    ensures bits { result ≡ (if list_any (is_of corrected) copies.now then 1 else 0) + (if are_several (is_of corrected) copies.now then 4 else 0) }
+    ensures bits { result ≡ (if list_any (is_of corrected) copies.now then 1
+        else 0) + (if are_several (is_of corrected) copies.now then 4 else 0) }
     ensures at_most { result ≤ 5 }
 {
     let count = count_of(copies, corrected);

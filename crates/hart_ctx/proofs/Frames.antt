@@ -34,16 +34,19 @@ below_frames t (k ∷ ks) = refl
 abbrev pub under_from : Triple → List Kept → Under
 under_from t ks = record { frames = frames_from t ks; base = base_from t ks }
 
-pub with_below_frames : (t u : Triple) (ks : List Kept) → with_below u (frames_from t ks) (base_from t ks) ≡ under_from u ks
+pub with_below_frames : (t u : Triple) (ks : List Kept) → with_below u (frames_from t ks) (base_from t ks)
+    ≡ under_from u ks
 with_below_frames t u [] = refl
 with_below_frames t u (k ∷ ks) = refl
 
 -- what a kept value tells of its handler
 pub told_again : (t : Triple) (k : Kept) → told_by (frame_of t k) (triple_kept k.saved) ≡ (k.at, k.saved)
-told_again t k = let e : flags_of (triple_kept k.saved) ≡ k.saved.flags = flags_again k.saved.flags k.flags_fit in rw e refl
+told_again t k = let e : flags_of (triple_kept k.saved) ≡ k.saved.flags = flags_again k.saved.flags k.flags_fit
+    in rw e refl
 
 pub told_first : (t : Triple) (k : Kept) (ks : List Kept) →
-    told_by (frame_of t k) (below (frames_from (triple_kept k.saved) ks) (base_from (triple_kept k.saved) ks)) ≡ (k.at, k.saved)
+    told_by (frame_of t k) (below (frames_from (triple_kept k.saved) ks) (base_from (triple_kept k.saved) ks))
+    ≡ (k.at, k.saved)
 told_first t k ks = rw (below_frames (triple_kept k.saved) ks) (told_again t k)
 
 -- The handlers from the oldest on.
@@ -64,19 +67,23 @@ pairs_length [] = refl
 pairs_length (k ∷ ks) = omega (arith, length-append (pairs ks) (pair_of k ∷ []), pairs_length ks)
 
 -- a pair stands as far from the front as its kept value does from the end
-pair_at : (ks : List Kept) (m j : ℕ) (x : Kept) → m + suc j ≡ length ks → x ≡ get_or ks m x → get_or (pairs ks) j (pair_of x) ≡ pair_of x
+pair_at : (ks : List Kept) (m j : ℕ) (x : Kept) → m + suc j ≡ length ks → x ≡ get_or ks m x
+    → get_or (pairs ks) j (pair_of x) ≡ pair_of x
 pair_at [] m j x p h = absurd (omega arith)
 pair_at (k ∷ ks) zero j x p h =
     let e : j ≡ length (pairs ks) = omega (arith, pairs_length ks)
     in rw (e, get_or-append_seam (pairs ks) (pair_of k) [] (pair_of x)) (ap pair_of (sym h))
 pair_at (k ∷ ks) (suc m) j x p h =
-    get_or-append (pairs ks) (pair_of k ∷ []) (pair_of x) j (omega (arith, pairs_length ks)) ∙ pair_at ks m j x (omega arith) h
+    get_or-append (pairs ks) (pair_of k ∷ []) (pair_of x) j (omega (arith, pairs_length ks))
+    ∙ pair_at ks m j x (omega arith) h
 
-pub running_at : (t : Triple) (ks : List Kept) (k : ℕ) (x : Kept) → k < length ks → x ≡ get_or ks (length ks - 1 - k) x →
+pub running_at : (t : Triple) (ks : List Kept) (k : ℕ) (x : Kept) → k < length ks
+    → x ≡ get_or ks (length ks - 1 - k) x →
     slice_get (running_in (frames_from t ks) (base_from t ks)) k ≡ Some (x.at, x.saved)
 running_at t ks k x l h =
     rw (running_pairs t ks)
-    (slice_get-get_or (pairs ks) k (pair_of x) (omega (arith, pairs_length ks)) ∙ ap Some (pair_at ks (length ks - 1 - k) k x (omega arith) h))
+    (slice_get-get_or (pairs ks) k (pair_of x) (omega (arith, pairs_length ks))
+    ∙ ap Some (pair_at ks (length ks - 1 - k) k x (omega arith) h))
 
 -- The registers, and a change of them.
 

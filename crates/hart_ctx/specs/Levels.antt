@@ -1,5 +1,6 @@
--- How the registers and the values that deliveries kept are a hart's contexts. A value that belongs to one level is kept one
--- level above it: a handler's saved pc, privilege and sie by the handler that interrupted it, or in the registers.
+-- How the registers and the values that deliveries kept are a hart's contexts. A value that belongs to one level is
+-- kept one level above it: a handler's saved pc, privilege and sie by the handler that interrupted it, or in the
+-- registers.
 use Rattle.std.specs.Prelude.{ℕ, suc, ◌/◌, ◌%◌, ◌==◌, if◌then◌else◌, List, [], ◌∷◌}
 use Rattle.sse_base.specs.declared.ids.Instance.{Instance}
 use Rattle.sse_base.specs.Ids.{same_instance}
@@ -15,7 +16,16 @@ abbrev pub triple_kept : Saved → Triple
 triple_kept s = record { sepc = s.sepc; spp = privilege_at (s.flags % 2 == 1); spie = s.flags / 2 % 2 == 1 }
 
 abbrev pub frame_of : Triple → Kept → Frame
-frame_of t k = record { at = k.at; saved = record { pc = t.sepc; privilege = t.spp; sie = t.spie; a6 = k.saved.a6; a7 = k.saved.a7 } }
+frame_of t k = record {
+  at = k.at;
+  saved = record {
+    pc = t.sepc;
+    privilege = t.spp;
+    sie = t.spie;
+    a6 = k.saved.a6;
+    a7 = k.saved.a7;
+  };
+}
 
 -- the handlers from the newest to the oldest, each level handing its triple down
 abbrev pub frames_from : Triple → List Kept → List Frame

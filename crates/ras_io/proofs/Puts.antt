@@ -5,7 +5,8 @@ use Rattle.std.proofs.KnownBytes.{Appends-trans}
 use Rattle.ras_io.specs.Causes.{Puts, AppendsFront}
 
 -- a whole write, and then a front of another
-pub AppendsFront-then : (a b d : Option (List ℕ)) (xs ys : List ℕ) → Appends a b xs → AppendsFront b d ys → AppendsFront a d (xs ++ ys)
+pub AppendsFront-then : (a b d : Option (List ℕ)) (xs ys : List ℕ) → Appends a b xs → AppendsFront b d ys
+    → AppendsFront a d (xs ++ ys)
 AppendsFront-then a b d xs ys p q =
     (xs ++ q.0, q.1, append_assoc xs q.0 q.1 ∙ ap (λ l. xs ++ l) q.2, Appends-trans a b d xs q.0 p q.3)
 
@@ -14,6 +15,7 @@ pub AppendsFront-of_more : (a b : Option (List ℕ)) (xs ys : List ℕ) → Appe
 AppendsFront-of_more a b xs ys q = (q.0, q.1 ++ ys, sym (append_assoc q.0 q.1 ys) ∙ ap (λ l. l ++ ys) q.2, q.3)
 
 -- the same answer, said of equal values
-pub Puts-same : {T E : Type 0} (a a' b b' : Option (List ℕ)) (r : Result T E) (xs xs' : List ℕ) → a ≡ a' → b ≡ b' → xs ≡ xs' → Puts a b r xs → Puts a' b' r xs'
+pub Puts-same : {T E : Type 0} (a a' b b' : Option (List ℕ)) (r : Result T E) (xs xs' : List ℕ) → a ≡ a' → b ≡ b'
+    → xs ≡ xs' → Puts a b r xs → Puts a' b' r xs'
 Puts-same {T} {E} a a' b b' r xs xs' p q e h =
     subst (λ l. Puts a' b' r l) e (subst (λ o. Puts a' o r xs) q (subst (λ o. Puts o b r xs) p h))

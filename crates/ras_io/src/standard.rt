@@ -142,7 +142,8 @@ impl<W: Write + Drop> StdSink<W> {
 
     // lets the bytes wait, where there is room for them
     fn gather(&mut self, bytes: &[u8]) -> bool
-        ensures { self.new ≡ (if result then record self.old { waiting = self.old.waiting ++ bytes.now } else self.old) }
+        ensures { self.new ≡ (if result then record self.old { waiting = self.old.waiting ++ bytes.now }
+            else self.old) }
     {
         if bytes.len() > GATHERED - self.gathered.len() {
             return false;

@@ -11,10 +11,12 @@ use Rattle.ras_text.specs.Numbers.{is_digit_of, value_in, number, hexadecimal}
 -- every byte is a digit, as a test
 all_digits : (base : ℕ) (ds : List ℕ) → AllDigits base ds → list_all (is_digit_of base) ds ≡ true
 all_digits base [] h = refl
-all_digits base (d ∷ ds) h = ap (λ b. b && list_all (is_digit_of base) ds) (lt-ltb (digit_value d) base h.0) ∙ all_digits base ds h.1
+all_digits base (d ∷ ds) h = ap (λ b. b && list_all (is_digit_of base) ds) (lt-ltb (digit_value d) base h.0)
+    ∙ all_digits base ds h.1
 
 -- a numeral that is small enough has its number
-pub value_of_numeral : (base : ℕ) (ds : List ℕ) → IsNumeral base ds → digits_value base ds < 2 ^ 64 → value_in base ds ≡ Some (digits_value base ds)
+pub value_of_numeral : (base : ℕ) (ds : List ℕ) → IsNumeral base ds → digits_value base ds < 2 ^ 64
+    → value_in base ds ≡ Some (digits_value base ds)
 unfolding value_in
 value_of_numeral base [] h small = absurd (omega arith)
 value_of_numeral base (d ∷ ds) h small =
@@ -46,5 +48,6 @@ number_decimal n small =
 pub number_hexadecimal : (n : ℕ) → n < 2 ^ 64 → number (hexadecimal n) ≡ Some n
 unfolding number hexadecimal
 number_hexadecimal n small =
-    let is : IsNumeral 16 (digits 16 false n) × (digits_value 16 (digits 16 false n) ≡ n) = digits_is_IsNumeral 16 false (omega arith) (omega arith) n (omega arith) in
+    let is : IsNumeral 16 (digits 16 false n) × (digits_value 16 (digits 16 false n) ≡ n) =
+    digits_is_IsNumeral 16 false (omega arith) (omega arith) n (omega arith) in
     value_of_numeral 16 (digits 16 false n) is.0 (omega (arith, is.1)) ∙ ap Some is.1

@@ -23,25 +23,30 @@ written buf j g fits =
     ∙ ap (λ l. g ∷ l) (drop-set-lt (suc j) buf j g (omega arith))
 
 abbrev by_rest : ℕ → ℕ → List ℕ → Bool → List ℕ
-by_rest k n acc last = cond last (digit_glyph false (n % 16) ∷ acc) (digits_onto k 16 false (n / 16) (digit_glyph false (n % 16) ∷ acc))
+by_rest k n acc last = cond last (digit_glyph false (n % 16)
+    ∷ acc) (digits_onto k 16 false (n / 16) (digit_glyph false (n % 16) ∷ acc))
 
 module _ (buf : List ℕ) (rest g : ℕ) (is : g ≡ digit_glyph false (rest % 16)) where
-  pub hex_last : (at : ℕ) → 0 < at → at ≤ length buf → rest / 16 ≡ 0 → drop (at - 1) (set buf (at - 1) g) ≡ hex_onto (48 + at) rest (drop at buf)
+  pub hex_last : (at : ℕ) → 0 < at → at ≤ length buf → rest / 16 ≡ 0 → drop (at - 1) (set buf (at - 1) g)
+      ≡ hex_onto (48 + at) rest (drop at buf)
   unfolding hex_onto
   hex_last zero some fits none = absurd (omega arith)
   hex_last (suc j) some fits none =
       let back : suc j - 1 ≡ j = omega arith in
       let more : 48 + suc j ≡ suc (48 + j) = omega arith in
-      rw (back, more) (written buf j g (omega arith) ∙ ap (λ x. x ∷ drop (suc j) buf) is ∙ sym (ap (by_rest (48 + j) rest (drop (suc j) buf)) (eq-eqb (rest / 16) 0 none)))
+      rw (back, more) (written buf j g (omega arith) ∙ ap (λ x. x ∷ drop (suc j) buf) is
+      ∙ sym (ap (by_rest (48 + j) rest (drop (suc j) buf)) (eq-eqb (rest / 16) 0 none)))
 
   pub hex_more : (at : ℕ) → 0 < at → at ≤ length buf → (rest / 16 ≡ 0 → ⊥)
-      → hex_onto (48 + (at - 1)) (rest / 16) (drop (at - 1) (set buf (at - 1) g)) ≡ hex_onto (48 + at) rest (drop at buf)
+      → hex_onto (48 + (at - 1)) (rest / 16) (drop (at - 1) (set buf (at - 1) g))
+      ≡ hex_onto (48 + at) rest (drop at buf)
   unfolding hex_onto
   hex_more zero some fits left = absurd (omega arith)
   hex_more (suc j) some fits left =
       let back : suc j - 1 ≡ j = omega arith in
       let more : 48 + suc j ≡ suc (48 + j) = omega arith in
-      rw (back, more) (ap (digits_onto (48 + j) 16 false (rest / 16)) (written buf j g (omega arith) ∙ ap (λ x. x ∷ drop (suc j) buf) is)
+      rw (back, more) (ap (digits_onto (48 + j) 16 false (rest / 16)) (written buf j g (omega arith)
+      ∙ ap (λ x. x ∷ drop (suc j) buf) is)
       ∙ sym (ap (by_rest (48 + j) rest (drop (suc j) buf)) (ne_eqb (rest / 16) 0 left)))
 
 -- one digit fewer is left

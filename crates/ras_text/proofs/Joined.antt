@@ -26,7 +26,8 @@ not_so false e = refl
 abbrev by_blank : ℕ → List ℕ → Bool → List (List ℕ)
 by_blank b v blank = cond blank ([] ∷ slice_split is_blank v) (onto_first b (slice_split is_blank v))
 
-word_and_more : (w v : List ℕ) → list_all is_word_byte w ≡ true → slice_split is_blank (w ++ 32 ∷ v) ≡ w ∷ slice_split is_blank v
+word_and_more : (w v : List ℕ) → list_all is_word_byte w ≡ true → slice_split is_blank (w ++ 32 ∷ v) ≡ w
+    ∷ slice_split is_blank v
 word_and_more [] v e = refl
 word_and_more (b ∷ w) v e =
     let p = both (is_word_byte b) _ e in

@@ -12,7 +12,8 @@ use Rattle.ras_text.specs.Numbers.{is_digit_of, value_in}
 -- the number after further digits, where each stays below 2 ^ 64
 abbrev pub onto : ℕ → ℕ → List ℕ → Option ℕ
 onto base n [] = Some n
-onto base n (d ∷ ds) = if is_digit_of base d && ltb (n * base + digit_value d) (2 ^ 64) then onto base (n * base + digit_value d) ds else None
+onto base n (d ∷ ds) = if is_digit_of base d && ltb (n * base + digit_value d) (2 ^ 64)
+    then onto base (n * base + digit_value d) ds else None
 
 -- a number where a test holds
 abbrev picked : ℕ → Bool → Option ℕ
@@ -30,13 +31,16 @@ module _ (base : ℕ) where
 
   -- the answer at once
   abbrev whole : ℕ → List ℕ → Option ℕ
-  whole n ds = picked (digits_value_after base n ds) (list_all (is_digit_of base) ds && ltb (digits_value_after base n ds) (2 ^ 64))
+  whole n ds = picked (digits_value_after base n ds) (list_all (is_digit_of base) ds
+      && ltb (digits_value_after base n ds) (2 ^ 64))
 
   -- one more digit, by whether it is one and whether the number stays small
   one_digit : 1 ≤ base → (n d : ℕ) (ds : List ℕ) (a b : Bool) → ltb (n * base + digit_value d) (2 ^ 64) ≡ b
-      → (n * base + digit_value d < 2 ^ 64 → onto base (n * base + digit_value d) ds ≡ whole (n * base + digit_value d) ds)
+      → (n * base + digit_value d < 2 ^ 64 → onto base (n * base + digit_value d) ds
+      ≡ whole (n * base + digit_value d) ds)
       → (if a && b then onto base (n * base + digit_value d) ds else None)
-      ≡ picked (digits_value_after base (n * base + digit_value d) ds) ((a && list_all (is_digit_of base) ds) && ltb (digits_value_after base (n * base + digit_value d) ds) (2 ^ 64))
+      ≡ picked (digits_value_after base (n * base + digit_value d) ds) ((a && list_all (is_digit_of base) ds)
+      && ltb (digits_value_after base (n * base + digit_value d) ds) (2 ^ 64))
   one_digit low n d ds false b is more = refl
   one_digit low n d ds true true is more = more (ltb-true _ _ is)
   one_digit low n d ds true false is more =
@@ -47,7 +51,8 @@ module _ (base : ℕ) where
 
   onto_whole : 1 ≤ base → (n : ℕ) (ds : List ℕ) → n < 2 ^ 64 → onto base n ds ≡ whole n ds
   onto_whole low n [] small = sym (ap (picked n) (lt-ltb n (2 ^ 64) small))
-  onto_whole low n (d ∷ ds) small = one_digit low n d ds (is_digit_of base d) _ refl (onto_whole low (n * base + digit_value d) ds)
+  onto_whole low n (d ∷ ds) small =
+      one_digit low n d ds (is_digit_of base d) _ refl (onto_whole low (n * base + digit_value d) ds)
 
   pub value_is : 1 ≤ base → (ds : List ℕ) → 0 < length ds → value_in base ds ≡ onto base 0 ds
   unfolding value_in
@@ -61,14 +66,17 @@ module _ (base : ℕ) where
 
   -- ---- where the reading stops
 
-  at_place : (n i : ℕ) (ds : List ℕ) → i < length ds → onto base n (drop i ds) ≡ onto base n (get_or ds i 0 ∷ drop (suc i) ds)
+  at_place : (n i : ℕ) (ds : List ℕ) → i < length ds → onto base n (drop i ds) ≡ onto base n (get_or ds i 0
+      ∷ drop (suc i) ds)
   at_place n i ds here = ap (onto base n) (drop-cons ds i 0 here)
 
-  pub not_digit : (n i : ℕ) (ds : List ℕ) → i < length ds → base ≤ digit_value (get_or ds i 0) → onto base n (drop i ds) ≡ None
+  pub not_digit : (n i : ℕ) (ds : List ℕ) → i < length ds → base ≤ digit_value (get_or ds i 0)
+      → onto base n (drop i ds) ≡ None
   not_digit n i ds here far =
       let d = get_or ds i 0 in
       let m = n * base + digit_value d in
-      at_place n i ds here ∙ ap (λ a. if a && ltb m (2 ^ 64) then onto base m (drop (suc i) ds) else None) (le-ltb _ _ far)
+      at_place n i ds here ∙ ap (λ a. if a && ltb m (2 ^ 64) then onto base m (drop (suc i) ds)
+      else None) (le-ltb _ _ far)
 
   too_big : (v : ℕ) (b : Bool) → None ≡ (if b then Some v else None) → b ≡ false
   too_big v true e = cc
@@ -81,7 +89,8 @@ module _ (base : ℕ) where
       let m = n * base + digit_value d in
       let big : ltb m (2 ^ 64) ≡ false = ap (λ x. ltb (n * base + x) (2 ^ 64)) (sym is) ∙ too_big _ _ none in
       at_place n i ds here
-      ∙ ap (λ a. if a && ltb m (2 ^ 64) then onto base m (drop (suc i) ds) else None) (lt-ltb (digit_value d) base (omega arith))
+      ∙ ap (λ a. if a && ltb m (2 ^ 64) then onto base m (drop (suc i) ds)
+      else None) (lt-ltb (digit_value d) base (omega arith))
       ∙ ap (λ b. if b then onto base m (drop (suc i) ds) else None) big
 
   pub ended : (n i : ℕ) (ds : List ℕ) → length ds ≤ i → onto base n (drop i ds) ≡ Some n

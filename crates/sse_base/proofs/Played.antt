@@ -54,7 +54,12 @@ abbrev pub with_events : Events → Machine → Machine
 with_events t m = record { events = t; masks = m.masks; stacks = m.stacks; memory = m.memory }
 
 abbrev pub with_words : List ℕ → Machine → Machine
-with_words words m = record { events = m.events; masks = m.masks; stacks = m.stacks; memory = put_words m.memory 0 words }
+with_words words m = record {
+  events = m.events;
+  masks = m.masks;
+  stacks = m.stacks;
+  memory = put_words m.memory 0 words;
+}
 
 abbrev pub with_signal : Instance → Machine → Machine
 with_signal at m = with_events (signal at m.events) m
@@ -66,7 +71,12 @@ injectable id = record { id = record { 0 = id }; inject = true }
 -- a board before its first step: all harts masked
 abbrev pub board : ℕ → List EventDecl → Machine
 board harts decls =
-    record { events = start_events harts decls; masks = replicate harts true; stacks = replicate harts (fresh_stack 0); memory = fresh_memory }
+    record {
+      events = start_events harts decls;
+      masks = replicate harts true;
+      stacks = replicate harts (fresh_stack 0);
+      memory = fresh_memory;
+    }
 
 abbrev pub local_on : ℕ → ℕ → Instance
 local_on id hart = Local (record { 0 = id }) hart

@@ -19,7 +19,8 @@ abbrev oneshot : Machine → Bool
 oneshot m = (event (local_on 0xffff0000 0) m.events).oneshot
 
 pub an_odd_entry_is_refused_and_a_second_register_too :
-    codes (ask 0 2 (0xffff0000 ∷ 0x1001 ∷ []) ∷ ask 0 2 (0xffff0000 ∷ 0x1002 ∷ []) ∷ ask 0 2 (0xffff0000 ∷ 0x1002 ∷ []) ∷ []) injected
+    codes (ask 0 2 (0xffff0000 ∷ 0x1001 ∷ []) ∷ ask 0 2 (0xffff0000 ∷ 0x1002 ∷ [])
+    ∷ ask 0 2 (0xffff0000 ∷ 0x1002 ∷ []) ∷ []) injected
     ≡ InvalidParam ∷ Success ∷ InvalidState ∷ []
 unfolding is_reserved class_of is_platform is_global same_instance
 an_odd_entry_is_refused_and_a_second_register_too = refl
@@ -31,7 +32,8 @@ pub a_completion_of_nothing_changes_nothing : after (ask 0 6 []) injected ≡ in
 a_completion_of_nothing_changes_nothing = refl
 
 pub a_mask_is_set_and_cleared_once :
-    codes (ask 0 8 [] ∷ ask 0 8 [] ∷ ask 0 9 [] ∷ ask 0 9 [] ∷ []) injected ≡ Success ∷ AlreadyStarted ∷ Success ∷ AlreadyStopped ∷ []
+    codes (ask 0 8 [] ∷ ask 0 8 [] ∷ ask 0 9 [] ∷ ask 0 9 [] ∷ []) injected ≡ Success ∷ AlreadyStarted ∷ Success
+    ∷ AlreadyStopped ∷ []
 a_mask_is_set_and_cleared_once = refl
 
 -- reads of attributes: all ten, then a range too long, an empty one, one that ends with memory, and three bad addresses
@@ -40,7 +42,8 @@ read base count lo hi = ask 0 0 (0xffff0000 ∷ base ∷ count ∷ lo ∷ hi ∷
 
 pub reads_are_checked_in_order :
     codes
-    (read 0 10 0x80000000 0 ∷ read 0 11 0x80000000 0 ∷ read 0 0 0x80000000 0 ∷ read 0 10 0x80000fb0 0 ∷ read 0 10 0x80000fb8 0
+    (read 0 10 0x80000000 0 ∷ read 0 11 0x80000000 0 ∷ read 0 0 0x80000000 0 ∷ read 0 10 0x80000fb0 0
+    ∷ read 0 10 0x80000fb8 0
     ∷ read 0 10 0x80000004 0 ∷ read 0 10 0x80000000 1 ∷ [])
     injected
     ≡ Success ∷ BadRange ∷ InvalidParam ∷ Success ∷ InvalidAddress ∷ InvalidAddress ∷ InvalidAddress ∷ []
@@ -68,7 +71,8 @@ filled = with_words (0 ∷ 5 ∷ 1 ∷ 0 ∷ []) injected
 
 abbrev writes : List Asked
 writes =
-    write 0 2 0x80000000 ∷ write 1 3 0x80000008 ∷ write 1 1 0x80000008 ∷ write 3 1 0x80000018 ∷ write 6 1 0x80000018 ∷ []
+    write 0 2 0x80000000 ∷ write 1 3 0x80000008 ∷ write 1 1 0x80000008 ∷ write 3 1 0x80000018
+    ∷ write 6 1 0x80000018 ∷ []
 
 pub writes_are_checked_in_order : codes writes filled ≡ Denied ∷ Denied ∷ Success ∷ Denied ∷ InvalidState ∷ []
 unfolding is_reserved class_of is_platform is_global same_instance is_never_written is_shut is_refused_value word_for
@@ -134,7 +138,8 @@ one_bad_word_leaves_all = refl
 -- ids: reserved, of the table but not here, of the platform but not here, and too large
 pub ids_are_looked_up :
     codes
-    (ask 0 4 (0x2 ∷ []) ∷ ask 0 4 (0x1 ∷ []) ∷ ask 0 4 (0x10000 ∷ []) ∷ ask 0 4 (0x4000 ∷ []) ∷ ask 0 4 (0x100000000 ∷ []) ∷ [])
+    (ask 0 4 (0x2 ∷ []) ∷ ask 0 4 (0x1 ∷ []) ∷ ask 0 4 (0x10000 ∷ []) ∷ ask 0 4 (0x4000 ∷ [])
+    ∷ ask 0 4 (0x100000000 ∷ []) ∷ [])
     injected
     ≡ InvalidParam ∷ NotSupported ∷ NotSupported ∷ NotSupported ∷ InvalidParam ∷ []
 unfolding is_reserved class_of is_platform is_global same_instance

@@ -17,7 +17,15 @@ use Rattle.sse_base.proofs.Played.{Asked, ask, codes, after, after_all, next_on,
 
 abbrev event_with : State → ℕ → Bool → ℕ → Event
 event_with state priority oneshot preferred =
-    record { inject = true; state = state; priority = priority; oneshot = oneshot; preferred = preferred; entry = 0x2000; arg = 0 }
+    record {
+      inject = true;
+      state = state;
+      priority = priority;
+      oneshot = oneshot;
+      preferred = preferred;
+      entry = 0x2000;
+      arg = 0;
+    }
 
 abbrev machine : List Instance → List Event → List Bool → List Bool → List Stack → Machine
 machine instances each marks masks stacks =
@@ -38,7 +46,8 @@ second = local_on 0xffff0000 0
 
 abbrev pair : List Bool → Machine
 pair marks =
-    machine (first ∷ second ∷ []) (event_with Enabled 0 false 0 ∷ event_with Enabled 0 false 0 ∷ []) marks (false ∷ []) (fresh_stack 0 ∷ [])
+    machine (first ∷ second ∷ []) (event_with Enabled 0 false 0
+    ∷ event_with Enabled 0 false 0 ∷ []) marks (false ∷ []) (fresh_stack 0 ∷ [])
 
 abbrev second_runs : Machine
 second_runs = after_delivery 0 (pair (false ∷ true ∷ []))
@@ -64,7 +73,8 @@ abbrev shared : Instance
 shared = global 0xffff8000
 
 abbrev waiting : Machine
-waiting = machine (shared ∷ []) (event_with Enabled 0 false 1 ∷ []) (true ∷ []) (false ∷ true ∷ []) (fresh_stack 0 ∷ fresh_stack 0 ∷ [])
+waiting = machine (shared ∷ []) (event_with Enabled 0 false 1 ∷ []) (true ∷ []) (false ∷ true ∷ []) (fresh_stack 0
+    ∷ fresh_stack 0 ∷ [])
 
 abbrev on_zero : Machine
 on_zero = after_delivery 0 waiting
@@ -86,14 +96,16 @@ unfolding same_instance is_more_urgent target waits_for chosen is_reserved class
 a_running_event_is_not_delivered_again = refl
 
 pub then_the_preferred_hart_has_it :
-    next_on 0 (after (ask 0 6 []) (after_all changes on_zero)) ∷ next_on 1 (after (ask 0 6 []) (after_all changes on_zero)) ∷ [] ≡ None ∷ Some shared ∷ []
+    next_on 0 (after (ask 0 6 []) (after_all changes on_zero))
+    ∷ next_on 1 (after (ask 0 6 []) (after_all changes on_zero)) ∷ [] ≡ None ∷ Some shared ∷ []
 unfolding same_instance is_more_urgent target waits_for chosen is_reserved class_of is_platform is_global
 then_the_preferred_hart_has_it = refl
 
 -- A oneshot event that is signalled again while it runs.
 
 abbrev once : Machine
-once = after_delivery 0 (machine (second ∷ []) (event_with Enabled 0 true 0 ∷ []) (true ∷ []) (false ∷ []) (fresh_stack 0 ∷ []))
+once = after_delivery 0 (machine (second ∷ []) (event_with Enabled 0 true 0 ∷ []) (true ∷ []) (false ∷ [])
+    (fresh_stack 0 ∷ []))
 
 abbrev status : Machine → ℕ
 status m = status_word second m.events
@@ -143,7 +155,8 @@ busy =
 abbrev runs_on_zero : Machine
 runs_on_zero =
     after_delivery 0
-    (machine (shared ∷ []) (event_with Enabled 0 false 0 ∷ []) (true ∷ []) (false ∷ false ∷ []) (busy ∷ fresh_stack 0 ∷ []))
+    (machine (shared ∷ []) (event_with Enabled 0 false 0 ∷ []) (true ∷ []) (false ∷ false ∷ []) (busy
+    ∷ fresh_stack 0 ∷ []))
 
 abbrev write_it : Asked
 write_it = ask 1 1 (0xffff8000 ∷ 8 ∷ 1 ∷ 0x80000000 ∷ [])
@@ -152,11 +165,13 @@ abbrev read_it : Asked
 read_it = ask 1 0 (0xffff8000 ∷ 8 ∷ 1 ∷ 0x80000000 ∷ [])
 
 pub another_hart_may_read_but_not_write : codes (write_it ∷ read_it ∷ []) runs_on_zero ≡ InvalidState ∷ Success ∷ []
-unfolding same_instance is_more_urgent target waits_for chosen is_reserved class_of is_platform is_global is_never_written is_shut is_refused_value word_for attribute
+unfolding same_instance is_more_urgent target waits_for chosen is_reserved class_of is_platform is_global
+    is_never_written is_shut is_refused_value word_for attribute
 another_hart_may_read_but_not_write = refl
 
 pub its_write_changes_nothing : after write_it runs_on_zero ≡ runs_on_zero
-unfolding same_instance is_more_urgent target waits_for chosen is_reserved class_of is_platform is_global is_never_written is_shut is_refused_value word_for
+unfolding same_instance is_more_urgent target waits_for chosen is_reserved class_of is_platform is_global
+    is_never_written is_shut is_refused_value word_for
 its_write_changes_nothing = refl
 
 abbrev first_word : List ℕ → ℕ
@@ -180,10 +195,12 @@ a_running_event_is_not_disabled = refl
 
 abbrev both_masked : Machine
 both_masked =
-    machine (shared ∷ []) (event_with Enabled 0 false 0 ∷ []) (true ∷ []) (true ∷ true ∷ []) (fresh_stack 0 ∷ fresh_stack 0 ∷ [])
+    machine (shared ∷ []) (event_with Enabled 0 false 0 ∷ []) (true ∷ []) (true ∷ true ∷ []) (fresh_stack 0
+    ∷ fresh_stack 0 ∷ [])
 
 pub the_unmasked_hart_has_it :
-    next_on 0 (after (ask 1 8 []) both_masked) ∷ next_on 1 (after (ask 1 8 []) both_masked) ∷ [] ≡ None ∷ Some shared ∷ []
+    next_on 0 (after (ask 1 8 []) both_masked) ∷ next_on 1 (after (ask 1 8 []) both_masked) ∷ [] ≡ None
+    ∷ Some shared ∷ []
 unfolding same_instance is_more_urgent target waits_for chosen
 the_unmasked_hart_has_it = refl
 
@@ -212,6 +229,7 @@ pub then_nothing_is_above_it : next_on 0 (after_delivery 0 three_unmasked) ≡ N
 unfolding same_instance is_more_urgent target waits_for chosen
 then_nothing_is_above_it = refl
 
-pub after_its_completion_the_other_is_next : next_on 0 (after (ask 0 6 []) (after_delivery 0 three_unmasked)) ≡ Some shared
+pub after_its_completion_the_other_is_next : next_on 0 (after (ask 0 6 []) (after_delivery 0 three_unmasked))
+    ≡ Some shared
 unfolding same_instance is_more_urgent target waits_for chosen
 after_its_completion_the_other_is_next = refl

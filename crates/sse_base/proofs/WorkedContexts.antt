@@ -25,7 +25,15 @@ greater = local_on 0x0 0
 
 abbrev enabled : ℕ → ℕ → ℕ → Event
 enabled priority entry arg =
-    record { inject = false; state = Enabled; priority = priority; oneshot = false; preferred = 0; entry = entry; arg = arg }
+    record {
+      inject = false;
+      state = Enabled;
+      priority = priority;
+      oneshot = false;
+      preferred = 0;
+      entry = entry;
+      arg = arg;
+    }
 
 abbrev context : ℕ → Bool → ℕ → ℕ → Context
 context pc sie a6 a7 = record { pc = pc; privilege = Supervisor; sie = sie; a6 = a6; a7 = a7 }
@@ -124,38 +132,47 @@ unfolding same_instance is_more_urgent target waits_for chosen
 a_second_delivery_keeps_what_it_writes_over = refl
 
 pub both_handlers_may_write_what_they_interrupted : codes writes to_write ≡ Success ∷ Success ∷ []
-unfolding same_instance is_more_urgent target waits_for chosen is_reserved class_of is_platform is_global is_never_written is_shut is_refused_value word_for
+unfolding same_instance is_more_urgent target waits_for chosen is_reserved class_of is_platform is_global
+    is_never_written is_shut is_refused_value word_for
 both_handlers_may_write_what_they_interrupted = refl
 
 pub the_older_one_has_its_word : kept lesser written ≡ Some 0x5550 ∷ Some 2 ∷ Some 0x11 ∷ Some 0x22 ∷ []
-unfolding same_instance is_more_urgent target waits_for chosen is_reserved class_of is_platform is_global is_never_written is_shut is_refused_value word_for
+unfolding same_instance is_more_urgent target waits_for chosen is_reserved class_of is_platform is_global
+    is_never_written is_shut is_refused_value word_for
 the_older_one_has_its_word = refl
 
 pub the_newer_one_has_its_word : kept greater written ≡ Some 0x1030 ∷ Some 3 ∷ Some 0 ∷ Some 0xa ∷ []
-unfolding same_instance is_more_urgent target waits_for chosen is_reserved class_of is_platform is_global is_never_written is_shut is_refused_value word_for
+unfolding same_instance is_more_urgent target waits_for chosen is_reserved class_of is_platform is_global
+    is_never_written is_shut is_refused_value word_for
 the_newer_one_has_its_word = refl
 
 pub sepc_is_set_beside_them : below_live written ≡ triple 0x2008 Supervisor false
-unfolding same_instance is_more_urgent target waits_for chosen is_reserved class_of is_platform is_global is_never_written is_shut is_refused_value word_for
+unfolding same_instance is_more_urgent target waits_for chosen is_reserved class_of is_platform is_global
+    is_never_written is_shut is_refused_value word_for
 sepc_is_set_beside_them = refl
 
 -- each handler goes back to the context that it interrupted, with what was written to it since
 pub the_newer_one_goes_back : live one_left ≡ context 0x2008 false 0 0xa
-unfolding same_instance is_more_urgent target waits_for chosen is_reserved class_of is_platform is_global is_never_written is_shut is_refused_value word_for
+unfolding same_instance is_more_urgent target waits_for chosen is_reserved class_of is_platform is_global
+    is_never_written is_shut is_refused_value word_for
 the_newer_one_goes_back = refl
 
 pub sepc_is_what_the_newer_one_had_kept : below_live one_left ≡ triple 0x1030 Supervisor true
-unfolding same_instance is_more_urgent target waits_for chosen is_reserved class_of is_platform is_global is_never_written is_shut is_refused_value word_for
+unfolding same_instance is_more_urgent target waits_for chosen is_reserved class_of is_platform is_global
+    is_never_written is_shut is_refused_value word_for
 sepc_is_what_the_newer_one_had_kept = refl
 
 pub the_older_one_goes_back : live none_left ≡ context 0x1030 true 0x11 0x22
-unfolding same_instance is_more_urgent target waits_for chosen is_reserved class_of is_platform is_global is_never_written is_shut is_refused_value word_for
+unfolding same_instance is_more_urgent target waits_for chosen is_reserved class_of is_platform is_global
+    is_never_written is_shut is_refused_value word_for
 the_older_one_goes_back = refl
 
 pub sepc_is_what_the_older_one_had_kept : below_live none_left ≡ triple 0x5550 User true
-unfolding same_instance is_more_urgent target waits_for chosen is_reserved class_of is_platform is_global is_never_written is_shut is_refused_value word_for
+unfolding same_instance is_more_urgent target waits_for chosen is_reserved class_of is_platform is_global
+    is_never_written is_shut is_refused_value word_for
 sepc_is_what_the_older_one_had_kept = refl
 
 pub nothing_is_kept_of_what_is_done : kept lesser none_left ≡ None ∷ None ∷ None ∷ None ∷ []
-unfolding same_instance is_more_urgent target waits_for chosen is_reserved class_of is_platform is_global is_never_written is_shut is_refused_value word_for
+unfolding same_instance is_more_urgent target waits_for chosen is_reserved class_of is_platform is_global
+    is_never_written is_shut is_refused_value word_for
 nothing_is_kept_of_what_is_done = refl

@@ -1,4 +1,5 @@
--- The states of an event. SBI 3.0, "Supervisor Software Events", the diagram of event states: these seven arrows and no other.
+-- The states of an event. SBI 3.0, "Supervisor Software Events", the diagram of event states: these seven arrows and
+-- no other.
 use Rattle.std.specs.Prelude.{Option, Some, None}
 use Rattle.sse_base.specs.declared.arrows.State.{State}
 use Rattle.sse_base.specs.declared.arrows.State.TheVariants.{Unused, Registered, Enabled, Running}

@@ -1,6 +1,6 @@
 -- The attributes of an event, and ranges of them.
--- SBI 3.0, "Supervisor Software Events", event attributes: there are ten, with these names and numbers. That an empty range
--- is refused before one that is too long is this project's own rule.
+-- SBI 3.0, "Supervisor Software Events", event attributes: there are ten, with these names and numbers. That an empty
+-- range is refused before one that is too long is this project's own rule.
 use Rattle.std.specs.Prelude.{ℕ, ◌+◌, ◌==◌, nat_lt, if◌then◌else◌, Result, Ok, Err}
 use Rattle.sse_base.specs.declared.attributes.AttrRange.{AttrRange}
 use Rattle.sse_base.specs.declared.attributes.RangeFault.{RangeFault}

@@ -1,7 +1,8 @@
 -- The ten calls of the extension.
--- SBI 3.0, "Supervisor Software Events", functions 0 to 9 of its extension. The order in which the checks of a call are made, the code of
--- each refusal, when an attribute may be written, and that a completion with no handler succeeds and changes nothing,
--- are this project's own rules. Each call below is its row of checks, from the first to the last, and then its effect.
+-- SBI 3.0, "Supervisor Software Events", functions 0 to 9 of its extension. The order in which the checks of a call
+-- are made, the code of each refusal, when an attribute may be written, and that a completion with no handler
+-- succeeds and changes nothing, are this project's own rules. Each call below is its row of checks, from the first to
+-- the last, and then its effect.
 use Rattle.std.specs.Prelude.{ℕ, zero, suc, ◌+◌, ◌-◌, ◌*◌, ◌/◌, ◌%◌, ◌==◌, ◌&&◌, ◌||◌, not, nat_lt, nat_le, Bool, true, false, if◌then◌else◌, List, [], ◌∷◌, ◌++◌, length, replicate, slice_index, slice_set, Option, Some, None, option_map, unwrap_or, Result, Ok, Err}
 use Rattle.sse_base.specs.declared.arrows.State.{State}
 use Rattle.sse_base.specs.declared.arrows.State.TheVariants.{Unused, Registered, Enabled, Running}
@@ -264,7 +265,12 @@ disable at t = take_next (moved Disable (event at t)) at t
 -- complete: the newest handler of the hart is done
 abbrev pub completed_at : Option Instance → Reach → Reach
 completed_at None r = r
-completed_at (Some at) r = record { stack = complete r.stack; events = set_completed at r.events; masks = r.masks; memory = r.memory }
+completed_at (Some at) r = record {
+  stack = complete r.stack;
+  events = set_completed at r.events;
+  masks = r.masks;
+  memory = r.memory;
+}
 
 abbrev pub complete_newest : Reach → Reach
 complete_newest r = completed_at (newest r.stack.frames) r
@@ -289,8 +295,8 @@ mask h masks = if is_masked h masks then (AlreadyStopped, masks) else (Success, 
 abbrev pub of_masks : Masking → Reach → Answer
 of_masks m r = record { code = m.0; written = no_words; reach = with_masks m.1 r }
 
--- Any call of a hart: first the function, then the event of those that take one, then the call's own checks. What the hart
--- itself runs is in its reach, so of the harts' stacks only the others' are looked at.
+-- Any call of a hart: first the function, then the event of those that take one, then the call's own checks. What the
+-- hart itself runs is in its reach, so of the harts' stacks only the others' are looked at.
 
 abbrev pub argument_at : List ℕ → ℕ → ℕ
 argument_at args i = slice_index args i
@@ -298,19 +304,24 @@ argument_at args i = slice_index args i
 abbrev pub function : ℕ → Function → List ℕ → List Stack → Reach → Answer
 function h functions.ReadAttrs args stacks r =
     on_instance (argument_at args 0) h r (λ at.
-    read_attrs (argument_at args 1) (argument_at args 2) (argument_at args 3) (argument_at args 4) at (slice_set stacks h r.stack) r)
+    read_attrs (argument_at args 1) (argument_at args 2) (argument_at args 3) (argument_at args 4) at
+    (slice_set stacks h r.stack) r)
 function h functions.WriteAttrs args stacks r =
     on_instance (argument_at args 0) h r (λ at.
     write_attrs (argument_at args 1) (argument_at args 2) (argument_at args 3) (argument_at args 4) at r)
 function h functions.Register args stacks r =
-    on_instance (argument_at args 0) h r (λ at. of_events (register (argument_at args 1) (argument_at args 2) at r.events) r)
+    on_instance (argument_at args 0) h r
+    (λ at. of_events (register (argument_at args 1) (argument_at args 2) at r.events) r)
 function h functions.Unregister args stacks r =
     on_instance (argument_at args 0) h r (λ at. of_events (unregister at r.events) r)
-function h functions.Enable args stacks r = on_instance (argument_at args 0) h r (λ at. of_events (enable at r.events) r)
-function h functions.Disable args stacks r = on_instance (argument_at args 0) h r (λ at. of_events (disable at r.events) r)
+function h functions.Enable args stacks r =
+    on_instance (argument_at args 0) h r (λ at. of_events (enable at r.events) r)
+function h functions.Disable args stacks r =
+    on_instance (argument_at args 0) h r (λ at. of_events (disable at r.events) r)
 function h functions.Complete args stacks r = accept (complete_newest r)
 function h functions.Inject args stacks r =
-    on_instance (argument_at args 0) h r (λ at. of_events (inject (argument_at args 0) (argument_at args 1) at r.events) r)
+    on_instance (argument_at args 0) h r
+    (λ at. of_events (inject (argument_at args 0) (argument_at args 1) at r.events) r)
 function h functions.HartUnmask args stacks r = of_masks (unmask h r.masks) r
 function h functions.HartMask args stacks r = of_masks (mask h r.masks) r
 

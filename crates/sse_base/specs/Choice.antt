@@ -31,8 +31,8 @@ first_unmasked [] = None
 first_unmasked (true ∷ masks) = option_map suc (first_unmasked masks)
 first_unmasked (false ∷ masks) = Some 0
 
--- the hart on which an instance is delivered: its own for a local one; for a global one its preferred hart, or where that
--- is masked the unmasked hart of least number
+-- the hart on which an instance is delivered: its own for a local one; for a global one its preferred hart, or where
+-- that is masked the unmasked hart of least number
 unfoldable pub target : Instance → ℕ → List Bool → Option ℕ
 target (Local id hart) preferred masks = Some hart
 target (Global id) preferred masks = if is_masked preferred masks then first_unmasked masks else Some preferred

@@ -1,7 +1,8 @@
 -- What a hart runs, and what its handlers interrupted.
 -- SBI 3.0, "Supervisor Software Events", software event delivery and completion, and the INTERRUPTED attributes.
--- A saved value stands here with the frame to which it belongs: the code's registers and attributes keep it one level away.
--- That sepc keeps all 64 bits, and what an INTERRUPTED attribute reads where nothing runs, are this project's own rules.
+-- A saved value stands here with the frame to which it belongs: the code's registers and attributes keep it one level
+-- away. That sepc keeps all 64 bits, and what an INTERRUPTED attribute reads where nothing runs, are this project's
+-- own rules.
 use Rattle.std.specs.Prelude.{ℕ, ◌+◌, ◌*◌, ◌/◌, ◌%◌, ◌==◌, Bool, true, false, if◌then◌else◌, List, [], ◌∷◌, Option, Some, None}
 use Rattle.std.specs.List.{list_any}
 use Rattle.sse_base.specs.declared.contexts.Privilege.{Privilege}
@@ -108,7 +109,8 @@ change_top g s = over s.live (with_below (g (top_triple s)) s.frames s.base)
 abbrev pub changed_below : Instance → (Triple → Triple) → List Frame → Triple → Under
 changed_below at g [] base = record { frames = []; base = base }
 changed_below at g (f ∷ fs) base =
-    if same_instance f.at at then on_top f (with_below (g (below fs base)) fs base) else on_top f (changed_below at g fs base)
+    if same_instance f.at at then on_top f (with_below (g (below fs base)) fs base)
+    else on_top f (changed_below at g fs base)
 
 abbrev pub change_below : Instance → (Triple → Triple) → Stack → Stack
 change_below at g s = over s.live (changed_below at g s.frames s.base)

@@ -58,11 +58,21 @@ is_pending at t = slice_index_or t.marks (place at t.instances) false
 
 -- the events with one of them changed
 abbrev pub change : Instance → Event → Events → Events
-change at e t = record { harts = t.harts; instances = t.instances; each = slice_set t.each (place at t.instances) e; marks = t.marks }
+change at e t = record {
+  harts = t.harts;
+  instances = t.instances;
+  each = slice_set t.each (place at t.instances) e;
+  marks = t.marks;
+}
 
 -- the events with one of them pending, or no longer
 abbrev pub mark : Instance → Bool → Events → Events
-mark at pending t = record { harts = t.harts; instances = t.instances; each = t.each; marks = slice_set t.marks (place at t.instances) pending }
+mark at pending t = record {
+  harts = t.harts;
+  instances = t.instances;
+  each = t.each;
+  marks = slice_set t.marks (place at t.instances) pending;
+}
 
 abbrev pub signal : Instance → Events → Events
 signal at t = mark at true t

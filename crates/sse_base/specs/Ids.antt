@@ -11,9 +11,11 @@ use Rattle.sse_base.specs.declared.ids.Instance.{Instance}
 use Rattle.sse_base.specs.declared.ids.Instance.TheVariants.{Local, Global}
 use Rattle.sse_base.specs.declared.events.EventDecl.{EventDecl}
 
--- the ids of SBI's table: local and global high priority RAS, double trap, PMU overflow, low priority RAS, software injected
+-- the ids of SBI's table: local and global high priority RAS, double trap, PMU overflow, low priority RAS, software
+-- injected
 abbrev pub is_in_table : ℕ → Bool
-is_in_table id = list_any (λ d. id == d) (0x0 ∷ 0x1 ∷ 0x8000 ∷ 0x10000 ∷ 0x100000 ∷ 0x108000 ∷ 0xffff0000 ∷ 0xffff8000 ∷ [])
+is_in_table id = list_any (λ d. id == d) (0x0 ∷ 0x1 ∷ 0x8000 ∷ 0x10000 ∷ 0x100000 ∷ 0x108000 ∷ 0xffff0000
+    ∷ 0xffff8000 ∷ [])
 
 -- bit 15: one instance for the whole board
 unfoldable pub is_global : ℕ → Bool

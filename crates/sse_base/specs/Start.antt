@@ -1,6 +1,6 @@
 -- The machine of a board at its start, and which declarations a board may have.
--- SBI 3.0, "Supervisor Software Events", event ids: an id names one event; hart mask: each hart begins masked. Memory that
--- begins with zeros is this project's own rule.
+-- SBI 3.0, "Supervisor Software Events", event ids: an id names one event; hart mask: each hart begins masked. Memory
+-- that begins with zeros is this project's own rule.
 use Rattle.std.specs.Prelude.{ℕ, ◌==◌, ◌&&◌, ◌||◌, not, Bool, true, false, List, [], ◌∷◌, map, replicate}
 use Rattle.sse_base.specs.declared.events.EventDecl.{EventDecl}
 use Rattle.sse_base.specs.Events.{start_events}
@@ -20,4 +20,9 @@ are_distinct (d ∷ ds) = not (has_id d.id.0 ds) && are_distinct ds
 -- nobody has used an event, each hart is masked and begins at its place, and memory is zeros
 abbrev pub start_machine : ℕ → List EventDecl → List ℕ → Machine
 start_machine harts decls starts =
-    record { events = start_events harts decls; masks = replicate harts true; stacks = map fresh_stack starts; memory = fresh_memory }
+    record {
+      events = start_events harts decls;
+      masks = replicate harts true;
+      stacks = map fresh_stack starts;
+      memory = fresh_memory;
+    }

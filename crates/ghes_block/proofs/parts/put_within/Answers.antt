@@ -5,4 +5,5 @@ use Rattle.ghes_block.proofs.parts.put_within.Goals as goal
 
 pub returns-clause-rest : goal.returns-clause-rest
 returns-clause-rest c =
-    drop-put_mid c.args.place _ c.args.out.now _ (c.args.place + length c.args.bytes.now) (omega arith) (omega arith) (omega arith)
+    drop-put_mid c.args.place _ c.args.out.now _ (c.args.place + length c.args.bytes.now) (omega arith) (omega arith)
+    (omega arith)

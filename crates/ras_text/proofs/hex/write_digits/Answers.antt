@@ -9,13 +9,15 @@ loop-at-init c = (omega arith, hex_start c.args.n c.args.buf.now c.told-buf, ome
 pub returns-then-rest-eq0-clause-digits : goal.returns-then-rest-eq0-clause-digits
 returns-then-rest-eq0-clause-digits c =
     let l = c.loop-at in
-    hex_last l.buf l.rest c.glyph.result c.glyph.ensures l.at c.loop-at-test.true (omega (arith, l.invariant.4)) c.if-rest-eq0.true ∙ l.invariant.1
+    hex_last l.buf l.rest c.glyph.result c.glyph.ensures l.at c.loop-at-test.true (omega (arith, l.invariant.4))
+    c.if-rest-eq0.true ∙ l.invariant.1
 
 pub loop-at-preserved : goal.loop-at-preserved
 loop-at-preserved c =
     let l = c.loop-at in (
       omega arith,
-      hex_more l.buf l.rest c.glyph.result c.glyph.ensures l.at c.loop-at-test.true (omega (arith, l.invariant.4)) c.if-rest-eq0.false ∙ l.invariant.1,
+      hex_more l.buf l.rest c.glyph.result c.glyph.ensures l.at c.loop-at-test.true (omega (arith, l.invariant.4))
+          c.if-rest-eq0.false ∙ l.invariant.1,
       fewer l.at l.rest c.loop-at-test.true l.invariant.2,
       inr (omega (arith, c.if-rest-eq0.false)),
       length-set l.buf (l.at - 1) c.glyph.result ∙ l.invariant.4,

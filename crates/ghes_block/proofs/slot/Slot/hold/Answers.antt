@@ -16,6 +16,13 @@ invariant_of-self c =
       time = omega arith;
     }
     in holds_more c.self.inside.copies.items c.args.copy c.push.new.self.items c.as_slice.result.now c.self.inside.bytes
-    c.encode_all-self-inside.new.out c.self.inside.length c.encode_all-self-inside.result c.self.invariant c.requires.copy words
-    c.push.ensures.items c.as_slice.ensures.value (omega (arith, c.requires.room, ap (λ (cs : List RecordCopy). length cs) c.self.view_is, ap (λ (cs : List RecordCopy). length cs) c.push.ensures.items, length-append c.self.inside.copies.items (c.args.copy ∷ []))) c.encode_all-self-inside.ensures.length
+    c.encode_all-self-inside.new.out c.self.inside.length c.encode_all-self-inside.result c.self.invariant
+    c.requires.copy words
+    c.push.ensures.items c.as_slice.ensures.value (omega (
+      arith,
+      c.requires.room,
+      ap (λ (cs : List RecordCopy). length cs) c.self.view_is,
+      ap (λ (cs : List RecordCopy). length cs) c.push.ensures.items,
+      length-append c.self.inside.copies.items (c.args.copy ∷ []),
+    )) c.encode_all-self-inside.ensures.length
     c.encode_all-self-inside.ensures.block

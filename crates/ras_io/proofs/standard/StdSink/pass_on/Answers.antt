@@ -9,14 +9,17 @@ pub returns-clause-bytes : goal.returns-clause-bytes
 returns-clause-bytes g c =
     let n = c.send.result in
     let bytes = c.args.bytes.now in
-    let empty : drop c.self.inside.sent c.self.inside.gathered.items ≡ [] = ap (λ s. s.waiting) c.self.view_is ∙ c.requires in
-    let front = passed (g.W.Write.contents c.self.inside.to) (g.W.Write.contents c.send.new.to) _ _ (take n bytes) empty empty c.send.ensures.bytes in
+    let empty : drop c.self.inside.sent c.self.inside.gathered.items ≡ [] = ap (λ s. s.waiting) c.self.view_is
+    ∙ c.requires in
+    let front = passed (g.W.Write.contents c.self.inside.to) (g.W.Write.contents c.send.new.to) _ _ (take n bytes)
+    empty empty c.send.ensures.bytes in
     record {
       all = tt;
       front = (
         take n bytes,
         drop n bytes,
         take-append-drop n bytes,
-        subst (λ s. Appends (written_to s) (append_known (g.W.Write.contents c.send.new.to) (drop c.self.inside.sent c.self.inside.gathered.items)) (take n bytes)) c.self.view_is front,
+        subst (λ s. Appends (written_to s) (append_known (g.W.Write.contents c.send.new.to)
+            (drop c.self.inside.sent c.self.inside.gathered.items)) (take n bytes)) c.self.view_is front,
       );
     }

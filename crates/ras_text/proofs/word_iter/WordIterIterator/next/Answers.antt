@@ -8,7 +8,8 @@ pub returns-then-is_empty-clause-steps : goal.returns-then-is_empty-clause-steps
 returns-then-is_empty-clause-steps c =
     let none : c.blank_in.result ≡ 0 = grind (arith, common_steps) in
     let f = c.word_in.ensures in
-    let e = no_word _ _ _ _ _ c.split_at.ensures.back c.split_at-2.ensures.back f.within f.before f.at c.blank_in.ensures.at none in
+    let e = no_word _ _ _ _ _ c.split_at.ensures.back c.split_at-2.ensures.back f.within f.before f.at
+    c.blank_in.ensures.at none in
     (sym c.self.view_is ∙ e.0, e.1)
 
 pub returns-clause-steps : goal.returns-clause-steps
@@ -16,9 +17,12 @@ returns-clause-steps c =
     let some : 0 < c.blank_in.result = grind (arith, common_steps) in
     let f = c.word_in.ensures in
     let g = c.blank_in.ensures in
-    sym c.self.view_is ∙ next_word _ _ _ _ _ _ c.split_at.ensures.back c.split_at-2.ensures.front c.split_at-2.ensures.back f.within f.before g.within g.before g.at some
+    sym c.self.view_is
+    ∙ next_word _ _ _ _ _ _ c.split_at.ensures.back c.split_at-2.ensures.front c.split_at-2.ensures.back f.within
+    f.before g.within g.before g.at some
 
 pub returns-clause-goes : goal.returns-clause-goes
 returns-clause-goes c =
-    let fewer : length c.args.self.now ≡ 1 + length (words c.split_at-2.result.1.now) = ap length (returns-clause-steps c) ∙ omega arith in
+    let fewer : length c.args.self.now ≡ 1 + length (words c.split_at-2.result.1.now) =
+    ap length (returns-clause-steps c) ∙ omega arith in
     record { on = λ _. (tt, tt, omega arith); keeps = tt; rests = λ _. tt }
