@@ -1,0 +1,3 @@
+-- Places in a queue, and its order through a change.
+pub mod Places
+pub mod InOrder
