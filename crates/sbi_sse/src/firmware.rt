@@ -19,7 +19,7 @@ ghost use Rattle.sse_base.specs.Start.{are_distinct, start_machine};
 use crate::parts::{CallNote, note, stacks};
 use hart_ctx::{Contexts, Memory, Regs, Saved};
 use ras_io::NoMemory;
-use sse_base::{EventDecl, EventId, Function, Instance, SbiCode};
+use sse_base::{EventDecl, EventId, Function, Instance, MAX_EVENTS, MAX_HARTS, SbiCode};
 use sse_table::Table;
 use sse_target::Targets;
 use std::alloc::Global;
@@ -58,8 +58,8 @@ impl Firmware {
         events: &[EventDecl],
         starts: &[u64],
     ) -> Result<Firmware, NoMemory>
-        requires harts { harts ≤ 8 }
-        requires events { length events.now ≤ 8 }
+        requires harts { harts ≤ MAX_HARTS }
+        requires events { length events.now ≤ MAX_EVENTS }
         requires distinct { are_distinct events.now ≡ true }
         requires starts { length starts.now ≡ harts }
         ensures { IfOk result (λ f. f ≡ start_machine harts events.now starts.now) }

@@ -46,8 +46,8 @@ put_in_order w (v ∷ vs) f h =
       | false ↦ λ e.
           let first = one_before v w e (eqb-false (id_of v.at).0 (id_of w.at).0 o.0)
           in and_from (list_all (is_before w) (v ∷ vs)) (is_in_order (v ∷ vs))
-               (and_from (is_before w v) (list_all (is_before w) vs) first (before_all w v vs first k.0))
-               h
+          (and_from (is_before w v) (list_all (is_before w) vs) first (before_all w v vs first k.0))
+          h
     ] refl
 
 -- fewer stay before

@@ -7,7 +7,7 @@ ghost use Rattle.sse_queue.specs.Order.{holds, has_id, put_in, without, front, i
 use crate::scan::{spot_of, standing};
 use crate::urgency::Waiting;
 use arrayvec::ArrayVec;
-use sse_base::Instance;
+use sse_base::{Instance, MAX_EVENTS};
 use std::marker::Model;
 
 /// How many questions queues were asked for their most urgent event.
@@ -16,10 +16,10 @@ pub struct Looks {
     pub count: u64,
 }
 
-/// The events that wait for one hart, at most 8, the most urgent first. No two of them have one id.
+/// The events that wait for one hart, the most urgent first: at most one instance of each event of a board.
 #[derive(Drop)]
 pub struct Queue {
-    items: ArrayVec<Waiting, 8>,
+    items: ArrayVec<Waiting, MAX_EVENTS>,
 }
 
 impl Model for Queue {
@@ -63,7 +63,7 @@ impl Queue {
     /// Lets an instance wait with this priority, behind all that are more urgent.
     #[tactic(auto, using(crate::proofs::Places::put_at_spot, crate::proofs::Places::spot_at_most, crate::proofs::InOrder::put_in_order))]
     pub fn insert(&mut self, priority: u32, at: Instance)
-        requires room { length self.old < 8 }
+        requires room { length self.old < MAX_EVENTS }
         requires id { has_id (id_of at) self.old ≡ false }
         ensures { self.new ≡ put_in (record { priority = priority; at = at }) self.old }
     {

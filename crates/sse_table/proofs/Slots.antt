@@ -1,17 +1,20 @@
 -- A slot of the three lists that stand side by side.
-use Rattle.std.proofs.Common.{◌≡◌, ℕ, zero, suc, ◌<◌, List, [], ◌∷◌, length, get_or, refl, ap, arith, Bool}
+use Rattle.std.proofs.Common.{◌≡◌, ℕ, zero, suc, ◌<◌, List, [], ◌∷◌, length, get_or, refl, ap, arith, Bool, true, false, cond}
 use Rattle.std.specs.Prelude.{Some, slice_get}
+use Rattle.std.proofs.lemmas.Bool.Decides.{nat_tests}
 use Rattle.sse_base.specs.declared.ids.Instance.{Instance}
+use Rattle.sse_base.specs.declared.ids.Instance.TheVariants.{Local, Global}
 use Rattle.sse_base.specs.declared.events.Event.{Event}
 use Rattle.sse_base.specs.declared.events.Slot.{Slot}
+use Rattle.sse_base.specs.Ids.{place, same_instance}
 use Rattle.sse_base.specs.Events.{joined}
 
-abbrev slot_of : Instance → Event → Bool → Slot
-slot_of at e b = record { at = at; event = e; pending = b }
+abbrev slot_with : Instance → Event → Bool → Slot
+slot_with at e b = record { at = at; event = e; pending = b }
 
 pub slot_at : (is : List Instance) (es : List Event) (bs : List Bool) (i : ℕ) (at : Instance) (e : Event) (b : Bool) →
-    i < length is → i < length es → i < length bs → at ≡ get_or is i at → e ≡ get_or es i e → b ≡ get_or bs i b →
-    slice_get (joined is es bs) i ≡ Some (slot_of at e b)
+    i < length is → i < length es → i < length bs → at ≡ get_or is i at → e ≡ get_or es i e → slice_get bs i ≡ Some b →
+    slice_get (joined is es bs) i ≡ Some (slot_with at e b)
 slot_at [] es bs i at e b k l m p q r = absurd (omega arith)
 slot_at (x ∷ is) [] bs i at e b k l m p q r = absurd (omega arith)
 slot_at (x ∷ is) (y ∷ es) [] i at e b k l m p q r = absurd (omega arith)
@@ -24,3 +27,19 @@ slots_length [] es bs p q = refl
 slots_length (x ∷ is) [] bs p q = absurd (omega arith)
 slots_length (x ∷ is) (y ∷ es) [] p q = absurd (omega arith)
 slots_length (x ∷ is) (y ∷ es) (z ∷ bs) p q = ap suc (slots_length is es bs (omega arith) (omega arith))
+
+same_is : (x y : Instance) → same_instance x y ≡ true → x ≡ y
+unfolding same_instance
+same_is (Local a h) (Local b k) e = grind (arith, nat_tests)
+same_is (Local a h) (Global b) e = cc
+same_is (Global a) (Local b k) e = cc
+same_is (Global a) (Global b) e = grind (arith, nat_tests)
+
+-- an instance stands at its place
+pub at_its_place : (at : Instance) (is : List Instance) (d : Instance) → place at is < length is → get_or is (place at is) d ≡ at
+at_its_place at [] d h = absurd (omega arith)
+at_its_place at (x ∷ is) d h =
+    elim (same_instance x at) as (λ b. same_instance x at ≡ b → get_or (x ∷ is) (cond b 0 (suc (place at is))) d ≡ at) [
+      | true ↦ λ e. same_is x at e
+      | false ↦ λ e. at_its_place at is d (grind (arith, e, h))
+    ] refl

@@ -7,14 +7,17 @@ ghost use Rattle.sse_base.specs.Calls.{mask, unmask};
 
 use crate::choice::{first_unmasked, is_above, more_urgent_of};
 use arrayvec::ArrayVec;
-use sse_base::{EventId, Instance, SbiCode, Slot, State};
+use sse_base::{EventId, Instance, MAX_HARTS, SbiCode, Slot, State};
 use sse_table::Table;
 use std::marker::Model;
+
+/// Room for the most harts of a board.
+const HARTS: usize = MAX_HARTS as usize;
 
 /// Which harts of a board are masked. A masked hart has no delivery, and is no target of a global event.
 #[derive(Drop)]
 pub struct Targets {
-    masks: ArrayVec<bool, 8>,
+    masks: ArrayVec<bool, HARTS>,
 }
 
 impl Model for Targets {
@@ -29,7 +32,7 @@ impl Targets {
     /// Harts that are all masked.
     #[tactic(auto, using(crate::proofs::First::more_masks))]
     pub fn new(harts: u8) -> Targets
-        requires { harts ≤ 8 }
+        requires { harts ≤ MAX_HARTS }
         ensures { result ≡ replicate harts true }
     {
         let mut masks = ArrayVec::new();
