@@ -8,17 +8,8 @@ use Rattle.sse_base.specs.declared.ids.Instance.{Instance}
 use Rattle.sse_base.specs.Ids.{id_of, same_instance}
 use Rattle.sse_base.specs.Choice.{Urgency, is_more_urgent}
 use Rattle.sse_queue.specs.declared.urgency.Waiting.{Waiting}
+use Rattle.sse_queue.proofs.Before.{before_both, one_before}
 use Rattle.sse_queue.specs.Order.{urgency_of, is_before, is_in_order, has_id, put_in, without}
-
--- what is more urgent than what is more urgent
-before_both : (a b c : Waiting) → is_before a b ≡ true → is_before b c ≡ true → is_before a c ≡ true
-unfolding is_more_urgent
-before_both a b c p q = grind (arith, nat_tests)
-
--- of two events one is more urgent
-one_before : (a b : Waiting) → is_before a b ≡ false → ((id_of a.at).0 ≡ (id_of b.at).0 → ⊥) → is_before b a ≡ true
-unfolding is_more_urgent
-one_before a b p q = grind (arith, nat_tests)
 
 before_all : (a b : Waiting) (vs : List Waiting) → is_before a b ≡ true → list_all (is_before b) vs ≡ true → list_all (is_before a) vs ≡ true
 before_all a b [] p q = refl

@@ -1,3 +1,4 @@
--- Places in a queue, and its order through a change.
+-- Which event is more urgent, places in a queue, and its order through a change.
+pub mod Before
 pub mod Places
 pub mod InOrder

@@ -27,19 +27,3 @@ slots_length [] es bs p q = refl
 slots_length (x ∷ is) [] bs p q = absurd (omega arith)
 slots_length (x ∷ is) (y ∷ es) [] p q = absurd (omega arith)
 slots_length (x ∷ is) (y ∷ es) (z ∷ bs) p q = ap suc (slots_length is es bs (omega arith) (omega arith))
-
-same_is : (x y : Instance) → same_instance x y ≡ true → x ≡ y
-unfolding same_instance
-same_is (Local a h) (Local b k) e = grind (arith, nat_tests)
-same_is (Local a h) (Global b) e = cc
-same_is (Global a) (Local b k) e = cc
-same_is (Global a) (Global b) e = grind (arith, nat_tests)
-
--- an instance stands at its place
-pub at_its_place : (at : Instance) (is : List Instance) (d : Instance) → place at is < length is → get_or is (place at is) d ≡ at
-at_its_place at [] d h = absurd (omega arith)
-at_its_place at (x ∷ is) d h =
-    elim (same_instance x at) as (λ b. same_instance x at ≡ b → get_or (x ∷ is) (cond b 0 (suc (place at is))) d ≡ at) [
-      | true ↦ λ e. same_is x at e
-      | false ↦ λ e. at_its_place at is d (grind (arith, e, h))
-    ] refl

@@ -158,7 +158,7 @@ impl Table {
     }
 
     /// An instance with its event and whether it is pending.
-    #[tactic(auto, using(crate::proofs::Slots::slot_at, crate::proofs::Slots::at_its_place))]
+    #[tactic(auto, using(crate::proofs::Slots::slot_at, sse_base::proofs::Instances::at_its_place))]
     pub fn slot_of(&self, at: Instance) -> Slot
         requires { IsOnBoard at self.now }
         ensures slot { slice_get (slots self.now) (place at self.now.instances) ≡ Some result }

@@ -1,7 +1,8 @@
 -- What stands at an instance's place.
 use Rattle.std.proofs.Common.{◌≡◌, length, arith, sym, ap}
 use Rattle.sse_base.specs.Ids.{place}
-use Rattle.sse_table.proofs.Slots.{slot_at, at_its_place}
+use Rattle.sse_base.proofs.Instances.{at_its_place}
+use Rattle.sse_table.proofs.Slots.{slot_at}
 use Rattle.sse_table.proofs.table.Table.slot_of.Goals as goal
 
 pub returns-clause-slot : goal.returns-clause-slot
