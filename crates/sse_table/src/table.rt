@@ -163,6 +163,7 @@ impl Table {
         requires { IsOnBoard at self.now }
         ensures slot { slice_get (slots self.now) (place at self.now.instances) ≡ Some result }
         ensures at { result.at ≡ at }
+        ensures event { result.event ≡ event at self.now }
     {
         let i = place(&self.instances, at);
         Slot {

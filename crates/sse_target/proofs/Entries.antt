@@ -96,10 +96,10 @@ lone ps qs e f =
     let none : holds e.one.at (lined (ps ++ qs)) ≡ false = not_held e.one.at (lined (ps ++ qs)) (free (id_of e.one.at) (ps ++ qs) f)
     in let front : with_id (id_of e.one.at) ps ≡ 0 = omega (arith, with_id-append (id_of e.one.at) ps qs)
     in ap (without e.one.at) (pulled ps qs e front)
-       ∙ elim (e.waits) as (λ b. without e.one.at (put_if b e.one (lined (ps ++ qs))) ≡ lined (ps ++ qs)) [
-         | true ↦ without_put e.one (lined (ps ++ qs)) none
-         | false ↦ without_none e.one.at (lined (ps ++ qs)) none
-       ]
+    ∙ elim (e.waits) as (λ b. without e.one.at (put_if b e.one (lined (ps ++ qs))) ≡ lined (ps ++ qs)) [
+      | true ↦ without_put e.one (lined (ps ++ qs)) none
+      | false ↦ without_none e.one.at (lined (ps ++ qs)) none
+    ]
 
 pub takes : (w : Waiting) (es : List Entry) → with_id (id_of w.at) es ≡ 0 → waiting es < 8 → Takes w (lined es)
 takes w es f k = record { room = omega (arith, many es); id = free (id_of w.at) es f }

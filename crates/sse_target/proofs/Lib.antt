@@ -3,6 +3,6 @@ pub mod First
 pub mod Swaps
 pub mod Entries
 pub mod Fits
--- pub mod Waits
--- pub mod Changes
--- pub mod Chosen
+pub mod Waits
+pub mod Changes
+pub mod Chosen

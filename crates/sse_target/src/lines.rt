@@ -3,23 +3,33 @@
 ghost use Rattle.std.specs.Prelude.{◌≡◌, ◌<◌, ℕ, length, slice_index_or, [], true, false};
 ghost use Rattle.sse_base.specs.Ids.{FitsHarts};
 ghost use Rattle.sse_base.specs.Choice.{is_hart, waits_for};
+ghost use Rattle.sse_queue.specs.Order.{without};
 ghost use Rattle.sse_target.specs.Lines.{line_for, waiting_of};
 ghost use Rattle.sse_target.specs.Steps.{waits_on, Takes, taken_if, put_if, moved, renewed};
 
 use crate::choice::{target, waits_on};
-use sse_base::Slot;
+use sse_base::{Instance, Slot};
 use sse_queue::Queue;
 use sse_table::Table;
 
-/// An instance waits no longer on a hart, where it did.
+/// An instance waits no longer here, where it did.
 #[tactic(auto, using(crate::proofs::Swaps::without_none))]
+fn leave(queue: &mut Queue, at: Instance)
+    ensures { queue.new ≡ without at queue.old }
+{
+    if queue.holds(at) {
+        queue.remove(at);
+    }
+}
+
+/// An instance waits no longer on a hart, where it did.
 fn take_out(queues: &mut [Queue], hart: Option<usize>, slot: &Slot)
     ensures { (h : ℕ) → h < length queues.old → slice_index_or queues.new h [] ≡ taken_if (is_hart h hart) slot.now.at (slice_index_or queues.old h []) }
 {
     if let Some(hart) = hart {
-        if hart < queues.len() && queues[hart].holds(slot.at) {
+        if hart < queues.len() {
             let queue = &mut queues[hart];
-            queue.remove(slot.at);
+            leave(queue, slot.at);
         }
     }
 }
