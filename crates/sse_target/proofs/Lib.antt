@@ -6,3 +6,4 @@ pub mod Fits
 pub mod Waits
 pub mod Changes
 pub mod Chosen
+pub mod Tables
