@@ -67,8 +67,8 @@ own_slots : (at : Instance) (t : Events) (p : Splits t.instances t.each t.marks 
 own_slots at t p =
     let i = place at t.instances
     in ap (λ es. joined t.instances es t.marks) (sym (set-get_or t.each i (fresh_event false 0)))
-       ∙ ap (λ bs. joined t.instances (set t.each i (event at t)) bs) (sym (set-get_or t.marks i false))
-       ∙ p.all (event at t) (is_pending at t)
+    ∙ ap (λ bs. joined t.instances (set t.each i (event at t)) bs) (sym (set-get_or t.marks i false))
+    ∙ p.all (event at t) (is_pending at t)
 
 -- one instance that doesn't wait
 idle : (ps qs : List Entry) (e : Entry) → e.waits ≡ false → lined (ps ++ e ∷ qs) ≡ lined (ps ++ qs)
@@ -95,9 +95,9 @@ same_without : (h : ℕ) (masks : List Bool) (front back : List Slot) (at : Inst
 same_without h masks front back at d e a b few r =
     let none = (others h masks masks front back (slot_with at d a) few r).0
     in ap (without at) (line_split h masks front back (slot_with at d a))
-       ∙ lone (entries h masks front) (entries h masks back) (entry h masks (slot_with at d a)) none
-       ∙ sym (ap (without at) (line_split h masks front back (slot_with at e b))
-              ∙ lone (entries h masks front) (entries h masks back) (entry h masks (slot_with at e b)) none)
+    ∙ lone (entries h masks front) (entries h masks back) (entry h masks (slot_with at d a)) none
+    ∙ sym (ap (without at) (line_split h masks front back (slot_with at e b))
+    ∙ lone (entries h masks front) (entries h masks back) (entry h masks (slot_with at e b)) none)
 
 event_put : (at : Instance) (e : Event) (b : Bool) (t : Events) → IsKeptIn at t → event at (put at e b t) ≡ e
 event_put at e b t k = get_or-set_same t.each (place at t.instances) e (fresh_event false 0) (omega (arith, k.on_board, k.each))
@@ -121,10 +121,10 @@ but_one at e b l t f k p held =
     in let was = own_slots at t sp
     in let few : Few (sp.front ++ slot_with at (event at t) (is_pending at t) ∷ sp.back) = subst Few was (few_slots t.instances t.each t.marks f)
     in let away : (h : ℕ) → h < length l.queues → is_hart h (target at e.preferred l.masks) ≡ false → queue_at h l ≡ line_for h l.masks (put at e b t) =
-      λ h n y.
-      held.each h n ∙ ap (line h l.masks) was
-      ∙ same_elsewhere h l.masks sp.front sp.back (slot_with at (event at t) (is_pending at t)) (slot_with at e b) (p h y) (not_there h l.masks (slot_with at e b) y)
-      ∙ ap (line h l.masks) (sym (sp.all e b))
+    λ h n y.
+    held.each h n ∙ ap (line h l.masks) was
+    ∙ same_elsewhere h l.masks sp.front sp.back (slot_with at (event at t) (is_pending at t)) (slot_with at e b) (p h y) (not_there h l.masks (slot_with at e b) y)
+    ∙ ap (line h l.masks) (sym (sp.all e b))
     in record {
       others = λ h n y. away h n (sym (ap (λ (v : Event). is_hart h (target at v.preferred l.masks)) (event_put at e b t k)) ∙ y);
       rest = λ h n. elim (cases_Bool (is_hart h (target at e.preferred l.masks))) [
@@ -147,10 +147,10 @@ still_holds at e b l t k x y held =
     let sp = split_of at t k
     in record {
       each = λ h n.
-        held.each h n ∙ ap (line h l.masks) (own_slots at t sp)
-        ∙ same_elsewhere h l.masks sp.front sp.back (slot_with at (event at t) (is_pending at t)) (slot_with at e b)
-            (rests h l.masks (slot_with at (event at t) (is_pending at t)) x) (rests h l.masks (slot_with at e b) y)
-        ∙ ap (line h l.masks) (sym (sp.all e b));
+          held.each h n ∙ ap (line h l.masks) (own_slots at t sp)
+          ∙ same_elsewhere h l.masks sp.front sp.back (slot_with at (event at t) (is_pending at t)) (slot_with at e b)
+          (rests h l.masks (slot_with at (event at t) (is_pending at t)) x) (rests h l.masks (slot_with at e b) y)
+          ∙ ap (line h l.masks) (sym (sp.all e b));
     }
 
 -- where nothing is pending nothing waits
@@ -170,13 +170,13 @@ nothing_waits h masks (x ∷ is) (e ∷ es) [] = refl
 nothing_waits h masks (x ∷ is) (e ∷ es) (j ∷ js) =
     let rest = joined is es (map (λ (at : Instance). false) js)
     in ap (λ b. lined_up (cond b (slot_with x e false ∷ filter (waits_for h masks) rest) (filter (waits_for h masks) rest))) (unmarked h masks x e)
-       ∙ nothing_waits h masks is es js
+    ∙ nothing_waits h masks is es js
 
 pub fresh_holds : (n : ℕ) (t : Events) (js : List Instance) → t.marks ≡ map (λ at. false) js → Holds (fresh_lines n) t
 fresh_holds n t js e =
     let none : List Waiting = []
     in record {
       each = λ h k.
-        get_or-replicate n h none none (omega (arith, length-replicate n none))
-        ∙ sym (ap (λ bs. line h (fresh_lines n).masks (joined t.instances t.each bs)) e ∙ nothing_waits h (fresh_lines n).masks t.instances t.each js);
+          get_or-replicate n h none none (omega (arith, length-replicate n none))
+          ∙ sym (ap (λ bs. line h (fresh_lines n).masks (joined t.instances t.each bs)) e ∙ nothing_waits h (fresh_lines n).masks t.instances t.each js);
     }

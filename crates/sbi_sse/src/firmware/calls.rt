@@ -48,7 +48,9 @@ impl Firmware {
             Ok(at) => at,
             Err(code) => return note(code),
         };
-        note(self.table.enable(at))
+        let code = self.table.enable(at);
+        self.targets.on_change(&self.table, at);
+        note(code)
     }
 
     /// Disables an event.
@@ -61,7 +63,9 @@ impl Firmware {
             Ok(at) => at,
             Err(code) => return note(code),
         };
-        note(self.table.disable(at))
+        let code = self.table.disable(at);
+        self.targets.on_change(&self.table, at);
+        note(code)
     }
 
     /// Completes the newest handler of the hart; where none runs nothing changes.
@@ -73,6 +77,7 @@ impl Firmware {
         let stack = &mut self.stacks[hart as usize];
         if let Some(at) = stack.complete() {
             self.table.set_completed(at);
+            self.targets.on_change(&self.table, at);
         }
         note(SbiCode::Success)
     }
@@ -112,7 +117,7 @@ impl Firmware {
             Some(to) => to,
             None => return note(SbiCode::InvalidParam),
         };
-        self.table.signal(to);
+        self.signal(to);
         note(SbiCode::Success)
     }
 
