@@ -6,7 +6,7 @@ use Rattle.sse_base.specs.declared.ids.Instance.{Instance}
 use Rattle.sse_base.specs.declared.events.Slot.{Slot}
 use Rattle.sse_base.specs.Ids.{id_of}
 use Rattle.sse_base.specs.Events.{Events, slots}
-use Rattle.sse_base.specs.Choice.{Urgency, is_more_urgent, urgency_of, is_masked, waits_for, least, more_urgent_of, above, is_above, chosen}
+use Rattle.sse_base.specs.Choice.{Urgency, is_more_urgent, urgency_of, is_masked, waits_for, deliverable, least, more_urgent_of, above, is_above, chosen}
 use Rattle.sse_queue.specs.declared.urgency.Waiting.{Waiting}
 use Rattle.sse_queue.specs.Order.{is_before, put_in, front}
 use Rattle.sse_target.specs.Lines.{Lines, Holds, queue_at, line_for, lined_up, waiting_of}
@@ -74,3 +74,7 @@ first_chosen h top l t q u e here held =
     let none : List Waiting = []
     in let there : h < length l.queues = omega (arith, within h l.masks u)
     in ap (λ x. picked (front x) top) (here ∙ get_or_default l.queues h q none there) ∙ picked_chosen h top l t u (held.each h there)
+
+-- where a hart is unmasked its queue is what can be delivered there
+pub is_deliverable : (h : ℕ) (masks : List Bool) (t : Events) → is_masked h masks ≡ false → line_for h masks t ≡ lined_up (deliverable h masks t)
+is_deliverable h masks t u = ap (λ b. lined_up (cond b [] (filter (waits_for h masks) (slots t)))) (sym u)

@@ -75,9 +75,9 @@ impl Firmware {
         ensures { Answers hart self.old self.new result (function hart Function.Complete [] self.old.stacks (reach hart self.old)) }
     {
         let stack = &mut self.stacks[hart as usize];
-        if let Some(at) = stack.complete() {
-            self.table.set_completed(at);
-            self.targets.on_change(&self.table, at);
+        if let Some(done) = stack.complete() {
+            self.table.set_completed(done);
+            self.targets.on_change(&self.table, done);
         }
         note(SbiCode::Success)
     }
