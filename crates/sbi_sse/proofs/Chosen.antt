@@ -6,12 +6,13 @@ use Rattle.sse_base.specs.declared.ids.Instance.{Instance}
 use Rattle.sse_base.specs.declared.ids.Instance.TheVariants.{Local, Global}
 use Rattle.sse_base.specs.declared.events.Event.{Event}
 use Rattle.sse_base.specs.declared.events.Slot.{Slot}
-use Rattle.sse_base.specs.Ids.{same_instance, place}
+use Rattle.sse_base.specs.Ids.{same_instance, place, may_run_on}
 use Rattle.sse_base.specs.Events.{Events, event, fresh_event, is_enabled, IsOnBoard, joined, slots}
 use Rattle.sse_base.specs.Contexts.{Stack, bit}
 use Rattle.sse_base.specs.Choice.{Urgency, is_more_urgent, urgency_of, is_masked, target, is_hart, waits_for, deliverable, more_urgent_of, least, is_above, above, chosen}
-use Rattle.sbi_sse.specs.Kept.{times, may_run_on, IsKept}
-use Rattle.sbi_sse.proofs.Counting.{same_self, standing_placed}
+use Rattle.sbi_sse.specs.Kept.{times, IsKept}
+use Rattle.sse_base.proofs.Instances.{same_self, target_may_run}
+use Rattle.sbi_sse.proofs.Counting.{standing_placed}
 
 abbrev In : Slot → List Slot → Type 0
 In s [] = ⊥
@@ -86,15 +87,10 @@ unfolding waits_for
 waits_enabled h masks s e =
     (both_true (is_enabled s.event.state) s.pending (both_true (is_enabled s.event.state && s.pending) (is_hart h (target s.at s.event.preferred masks)) e).0).0
 
-target_may : (h preferred : ℕ) (masks : List Bool) (at : Instance) → is_hart h (target at preferred masks) ≡ true → may_run_on h at ≡ true
-unfolding target
-target_may h preferred masks (Local id k) e = e
-target_may h preferred masks (Global id) e = refl
-
 waits_may : (h : ℕ) (masks : List Bool) (s : Slot) → waits_for h masks s ≡ true → may_run_on h s.at ≡ true
 unfolding waits_for
 waits_may h masks s e =
-    target_may h s.event.preferred masks s.at (both_true (is_enabled s.event.state && s.pending) (is_hart h (target s.at s.event.preferred masks)) e).1
+    target_may_run h s.at s.event.preferred masks (both_true (is_enabled s.event.state && s.pending) (is_hart h (target s.at s.event.preferred masks)) e).1
 
 -- what may be delivered on a hart
 pub record MayBegin (h : ℕ) (at : Instance) (t : Events) : Type 0 where

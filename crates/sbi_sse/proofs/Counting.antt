@@ -5,28 +5,10 @@ use Rattle.std.proofs.lemmas.Bool.{cases_Bool}
 use Rattle.std.proofs.lemmas.Bool.Decides.{nat_tests}
 use Rattle.sse_base.specs.declared.ids.Instance.{Instance}
 use Rattle.sse_base.specs.declared.ids.Instance.TheVariants.{Local, Global}
-use Rattle.sse_base.specs.Ids.{same_instance, place}
+use Rattle.sse_base.specs.Ids.{same_instance, place, may_run_on}
 use Rattle.sse_base.specs.Contexts.{Frame, Stack, bit}
-use Rattle.sbi_sse.specs.Kept.{times, ats, running, may_run_on}
-
-pub same_self : (x : Instance) → same_instance x x ≡ true
-unfolding same_instance
-same_self (Local a h) = grind (arith, nat_tests)
-same_self (Global a) = grind (arith, nat_tests)
-
-pub same_is : (x y : Instance) → same_instance x y ≡ true → x ≡ y
-unfolding same_instance
-same_is (Local a h) (Local b k) e =
-    let p : a.0 ≡ b.0 = grind (arith, nat_tests)
-    in let q : h ≡ k = grind (arith, nat_tests)
-    in let r : a ≡ b = ap (λ (n : ℕ). record { 0 = n }) p
-    in cc
-same_is (Local a h) (Global b) e = cc
-same_is (Global a) (Local b k) e = cc
-same_is (Global a) (Global b) e =
-    let p : a.0 ≡ b.0 = grind (arith, nat_tests)
-    in let r : a ≡ b = ap (λ (n : ℕ). record { 0 = n }) p
-    in cc
+use Rattle.sse_base.proofs.Instances.{same_self, same_is}
+use Rattle.sbi_sse.specs.Kept.{times, ats, running}
 
 pub times_append : (x : Instance) (xs ys : List Instance) → times x (xs ++ ys) ≡ times x xs + times x ys
 times_append x [] ys = omega arith

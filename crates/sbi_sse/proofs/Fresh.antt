@@ -4,19 +4,21 @@ use Rattle.std.specs.Prelude.{filter, ◌==◌, ◌&&◌, not}
 use Rattle.std.specs.List.{flat_map}
 use Rattle.std.proofs.lemmas.Bool.{cases_Bool, cases_lt}
 use Rattle.std.proofs.lemmas.Bool.Decides.{nat_tests, eqb_tells}
-use Rattle.std.proofs.lemmas.List.{length-replicate}
+use Rattle.std.proofs.lemmas.List.{length-replicate, length-map}
 use Rattle.std.proofs.lemmas.List.Elements.{filter-append}
 use Rattle.sse_base.specs.declared.ids.EventId.{EventId}
 use Rattle.sse_base.specs.declared.ids.Instance.{Instance}
 use Rattle.sse_base.specs.declared.ids.Instance.TheVariants.{Local, Global}
 use Rattle.sse_base.specs.declared.events.Event.{Event}
 use Rattle.sse_base.specs.declared.events.EventDecl.{EventDecl}
-use Rattle.sse_base.specs.Ids.{same_instance, place, id_of, is_global, on_harts, instances_of_event, by_rising_id, in_order}
+use Rattle.sse_base.specs.Ids.{same_instance, place, id_of, is_global, on_harts, instances_of_event, by_rising_id, in_order, may_run_on, is_meant}
 use Rattle.sse_base.specs.Events.{fresh_event, fresh_events, is_running, start_events}
 use Rattle.sse_base.specs.Contexts.{Stack, bit, fresh_stack}
 use Rattle.sse_table.proofs.Orders.{order_length, as_many_events}
 use Rattle.sse_base.specs.Start.{has_id, are_distinct}
-use Rattle.sbi_sse.specs.Kept.{times, ats, running, may_run_on, IsBoard, IsKept}
+use Rattle.sse_target.specs.Lines.{fresh_lines}
+use Rattle.sse_target.proofs.Tables.{fresh_holds}
+use Rattle.sbi_sse.specs.Kept.{times, ats, running, IsBoard, IsKept, Serves}
 use Rattle.sbi_sse.proofs.Counting.{times_append, placed_stands, standing_placed}
 
 -- One event on each hart: each hart's instance stands once.
@@ -258,4 +260,63 @@ fresh_kept n ds starts l e m =
       own = λ h d x p q.
           (let r : h < length starts = omega (arith, as_many_stacks starts)
           in absurd (omega (arith, no_frames x starts h d r)));
+    }
+
+-- What waits: nothing. And on each hart an event means one instance.
+
+meant_less : (h : ℕ) (id : EventId) (xs : List Instance) → length (filter (is_meant h id) xs) ≤ length (filter (may_run_on h) xs)
+meant_less h id [] = omega arith
+meant_less h id (x ∷ xs) =
+    elim (cases_Bool (may_run_on h x)) [
+      | inl r ↦ elim (cases_Bool ((id_of x).0 == id.0)) [
+        | inl e ↦ rw (r, e) (omega (arith, meant_less h id xs))
+        | inr e ↦ rw (r, e) (omega (arith, meant_less h id xs))
+      ]
+      | inr r ↦ rw r (meant_less h id xs)
+    ]
+
+other_alone : (a id : EventId) (h k : ℕ) → (a.0 == id.0) ≡ false → length (filter (is_meant h id) (Local a k ∷ [])) ≡ 0
+other_alone a id h k e = elim (cases_Bool (k == h)) [ inl q ↦ rw (q, e) refl | inr q ↦ rw q refl ]
+
+other_harts : (a id : EventId) (h n : ℕ) → (a.0 == id.0) ≡ false → length (filter (is_meant h id) (on_harts a n)) ≡ 0
+other_harts a id h zero e = refl
+other_harts a id h (suc n) e =
+    omega (
+      arith,
+      ap length (filter-append (is_meant h id) (on_harts a n) (Local a n ∷ [])),
+      length-append (filter (is_meant h id) (on_harts a n)) (filter (is_meant h id) (Local a n ∷ [])),
+      other_alone a id h n e,
+      other_harts a id h n e,
+    )
+
+event_meant : (n : ℕ) (a id : EventId) (h : ℕ) → length (filter (is_meant h id) (instances_of_event n a)) ≤ bit (a.0 == id.0)
+event_meant n a id h =
+    elim (cases_Bool (a.0 == id.0)) [
+      | inl e ↦ rw e (omega (arith, meant_less h id (instances_of_event n a), event_few n a h))
+      | inr e ↦ elim (cases_Bool (is_global a.0)) [
+        | inl g ↦ rw (g, e) (omega arith)
+        | inr g ↦ rw (g, e) (omega (arith, other_harts a id h n e))
+      ]
+    ]
+
+all_meant : (n h : ℕ) (id : EventId) (ds : List EventDecl) → length (filter (is_meant h id) (all n ds)) ≤ how_many id.0 ds
+all_meant n h id [] = omega arith
+all_meant n h id (d ∷ ds) =
+    omega (
+      arith,
+      ap length (filter-append (is_meant h id) (instances_of_event n d.id) (all n ds)),
+      length-append (filter (is_meant h id) (instances_of_event n d.id)) (filter (is_meant h id) (all n ds)),
+      event_meant n d.id id h,
+      all_meant n h id ds,
+    )
+
+pub fresh_serves : (n : ℕ) (ds : List EventDecl) → length ds ≤ 8 → are_distinct ds ≡ true → Serves (fresh_lines n) (start_events n ds)
+fresh_serves n ds l e =
+    record {
+      holds = fresh_holds n (start_events n ds) (all n (in_order ds)) refl;
+      fits = record {
+        alone = λ h id. omega (arith, all_meant n h id (in_order ds), order_many id.0 ds, declared_once id.0 ds e);
+        few = λ h. omega (arith, all_few n h (in_order ds), order_length ds);
+      };
+      marks = length-map (all n (in_order ds)) (λ (at : Instance). false);
     }

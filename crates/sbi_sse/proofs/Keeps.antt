@@ -1,23 +1,26 @@
 -- What each change of the firmware keeps.
 use Rattle.std.proofs.Common.{◌≡◌, ℕ, zero, suc, ◌+◌, ◌<◌, ◌≤◌, Bool, true, false, List, [], ◌∷◌, length, get_or, set, refl, ap, sym, ◌∙◌, arith, inl, inr, subst}
-use Rattle.std.specs.Prelude.{filter, if◌then◌else◌, Some, unwrap_or}
+use Rattle.std.specs.Prelude.{filter, if◌then◌else◌, Option, Some, option_map, unwrap_or, ◌%◌, ◌==◌}
 use Rattle.std.proofs.lemmas.Bool.{cases_Bool, cases_lt}
 use Rattle.std.proofs.lemmas.List.{length-set, get_or-set_same, get_or-set_other, get_or_past}
 use Rattle.std.proofs.lemmas.Bool.Decides.{eqb_tells}
 use Rattle.sse_base.specs.declared.arrows.State.{State}
 use Rattle.sse_base.specs.declared.arrows.State.TheVariants.{Unused, Registered, Enabled, Running}
-use Rattle.sse_base.specs.declared.arrows.Move.TheVariants.{Deliver, Complete, CompleteOnce}
+use Rattle.sse_base.specs.declared.arrows.Move.{Move}
+use Rattle.sse_base.specs.declared.arrows.Move.TheVariants.{Register, Unregister, Deliver, Complete, CompleteOnce}
+use Rattle.sse_base.specs.declared.codes.SbiCode.TheVariants.{InvalidParam}
 use Rattle.sse_base.specs.Arrows.{arrow}
 use Rattle.sse_base.specs.declared.ids.Instance.{Instance}
 use Rattle.sse_base.specs.declared.events.Event.{Event}
-use Rattle.sse_base.specs.Ids.{same_instance, place}
-use Rattle.sse_base.specs.Events.{Events, event, change, mark, fresh_event, is_running, is_enabled, IsOnBoard, gone, completion_of, set_running, set_completed}
+use Rattle.sse_base.specs.Ids.{same_instance, place, may_run_on}
+use Rattle.sse_base.specs.Events.{Events, event, change, mark, fresh_event, is_running, is_enabled, IsOnBoard, in_state, moved, gone, completion_of, set_running, set_completed}
 use Rattle.sse_base.specs.Contexts.{Context, Triple, Frame, Stack, Under, bit, newest, deliver, complete, below, with_below, on_top, changed_below, changed_own}
-use Rattle.sse_base.specs.Calls.{with_attributes, with_interrupted, with_interrupted_words, with_interrupted_triple}
+use Rattle.sse_base.specs.Calls.{refused, take_next, with_handler, register, unregister, with_attributes, with_interrupted, with_interrupted_words, with_interrupted_triple}
 use Rattle.hart_ctx.specs.declared.regs.Regs.{Regs}
 use Rattle.hart_ctx.specs.Registers.{with_regs, triple_in}
-use Rattle.sbi_sse.specs.Kept.{times, ats, running, may_run_on, IsKept}
-use Rattle.sbi_sse.proofs.Counting.{same_self, same_is, same_place, exchange, part_of_running, ats_length, placed_stands, no_longer, passing}
+use Rattle.sbi_sse.specs.Kept.{times, ats, running, IsKept}
+use Rattle.sse_base.proofs.Instances.{same_self, same_is}
+use Rattle.sbi_sse.proofs.Counting.{same_place, exchange, part_of_running, ats_length, placed_stands, no_longer, passing}
 
 -- One event of the three lists.
 
@@ -328,3 +331,28 @@ writing_keeps t u ms ss h base words s new at k l e p q =
     ap (λ (z : Stack). ats z.frames) p ∙ written_ats base words at s ∙ ap (λ (z : Stack). ats z.frames) e
     in subst (λ (v : Events). IsKept v ms (set ss h new)) (sym q)
     (frames_keep (change at (with_attributes base words (event at t)) t) ms ss h s new (change_keeps at (with_attributes base words (event at t)) t ms ss k refl) l r)
+
+-- a call that leaves whether an event runs
+abbrev handler_after : ℕ → ℕ → Move → Instance → Events → State → Events
+handler_after pc arg mv at t state = (take_next (option_map (with_handler pc arg) (option_map (in_state (event at t)) (arrow state mv))) at t).next
+
+pub register_keeps : (pc arg : ℕ) (at : Instance) (t : Events) (ms : List Bool) (ss : List Stack) → IsKept t ms ss → IsKept (register pc arg at t).next ms ss
+register_keeps pc arg at t ms ss k =
+    elim (pc % 2 == 1) as (λ odd. IsKept (if odd then refused InvalidParam t else take_next (option_map (with_handler pc arg) (moved Register (event at t))) at t).next ms ss) [
+      | true ↦ k
+      | false ↦ elim ((event at t).state) as (λ x. (event at t).state ≡ x → IsKept (handler_after pc arg Register at t x) ms ss) [
+        | Unused ↦ λ e. change_keeps at (with_handler pc arg (in_state (event at t) Registered)) t ms ss k (sym (ap is_running e))
+        | Registered ↦ λ e. k
+        | Enabled ↦ λ e. k
+        | Running ↦ λ e. k
+      ] refl
+    ]
+
+pub unregister_keeps : (at : Instance) (t : Events) (ms : List Bool) (ss : List Stack) → IsKept t ms ss → IsKept (unregister at t).next ms ss
+unregister_keeps at t ms ss k =
+    elim ((event at t).state) as (λ x. (event at t).state ≡ x → IsKept (handler_after 0 0 Unregister at t x) ms ss) [
+      | Unused ↦ λ e. k
+      | Registered ↦ λ e. change_keeps at (with_handler 0 0 (in_state (event at t) Unused)) t ms ss k (sym (ap is_running e))
+      | Enabled ↦ λ e. k
+      | Running ↦ λ e. k
+    ] refl

@@ -48,7 +48,9 @@ impl Firmware {
             Ok(at) => at,
             Err(code) => return note(code),
         };
-        note(self.table.enable(at))
+        let code = self.table.enable(at);
+        self.targets.on_change(&self.table, at);
+        note(code)
     }
 
     /// Disables an event.
@@ -61,7 +63,9 @@ impl Firmware {
             Ok(at) => at,
             Err(code) => return note(code),
         };
-        note(self.table.disable(at))
+        let code = self.table.disable(at);
+        self.targets.on_change(&self.table, at);
+        note(code)
     }
 
     /// Completes the newest handler of the hart; where none runs nothing changes.
@@ -71,8 +75,9 @@ impl Firmware {
         ensures { Answers hart self.old self.new result (function hart Function.Complete [] self.old.stacks (reach hart self.old)) }
     {
         let stack = &mut self.stacks[hart as usize];
-        if let Some(at) = stack.complete() {
-            self.table.set_completed(at);
+        if let Some(done) = stack.complete() {
+            self.table.set_completed(done);
+            self.targets.on_change(&self.table, done);
         }
         note(SbiCode::Success)
     }
@@ -112,7 +117,7 @@ impl Firmware {
             Some(to) => to,
             None => return note(SbiCode::InvalidParam),
         };
-        self.table.signal(to);
+        self.signal(to);
         note(SbiCode::Success)
     }
 
