@@ -43,8 +43,8 @@ const FROM_ELSEWHERE: [Act; 11] = [
     Act::Depth(1, 0),
 ];
 
-/// The event prefers hart 1, which is masked, so it begins on hart 0; signalled again it waits for the preferred hart, and
-/// for the handler to complete.
+/// The event prefers hart 1, which is masked, so it begins on hart 0; signalled again it waits for the preferred
+/// hart, and for the handler to complete.
 const PREFERS_ANOTHER: [Act; 17] = [
     Act::Store(BASE, 1),
     Act::Call(0, 1, [GLOBAL, 3, 1, BASE, 0], SbiCode::Success),

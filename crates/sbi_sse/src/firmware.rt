@@ -44,7 +44,12 @@ impl Model for Firmware {
 
     ghost Value = { Machine };
 
-    ghost view = { λ f. record { events = f.table; masks = f.targets.masks; stacks = f.stacks.items; memory = f.memory } };
+    ghost view = { λ f. record {
+      events = f.table;
+      masks = f.targets.masks;
+      stacks = f.stacks.items;
+      memory = f.memory;
+    } };
 
     ghost use Rattle.sbi_sse.specs.Kept.{Stands};
 
@@ -148,7 +153,10 @@ impl Firmware {
     /// 8 or is outside memory; then nothing changes.
     pub fn store(&mut self, addr: u64, value: u64) -> Option<()>
         ensures stored { is_some result ≡ is_word addr }
-        ensures next { self.new ≡ record self.old { memory = unwrap_or (store self.old.memory addr value) self.old.memory } }
+        ensures next { self.new ≡ record self.old {
+          memory =
+              unwrap_or (store self.old.memory addr value) self.old.memory;
+        } }
     {
         self.memory.store(addr, value)
     }
@@ -167,7 +175,10 @@ impl Firmware {
     /// `sepc`, `spp` and `spie`. All else stays.
     pub fn set_regs(&mut self, hart: u8, regs: &Regs)
         requires { hart < self.old.events.harts }
-        ensures { self.new ≡ record self.old { stacks = slice_set self.old.stacks hart (with_regs regs.now (stack_of hart self.old)) } }
+        ensures { self.new ≡ record self.old {
+          stacks =
+              slice_set self.old.stacks hart (with_regs regs.now (stack_of hart self.old));
+        } }
     {
         let stack = &mut self.stacks[hart as usize];
         stack.set_regs(regs);
@@ -190,7 +201,8 @@ impl Firmware {
     pub fn deliver(&mut self, hart: u8) -> Option<Instance>
         requires { hart < self.old.events.harts }
         ensures which { result ≡ next_for hart (reach hart self.old) }
-        ensures next { MatchOption result (self.new ≡ self.old) (λ at. self.new ≡ placed hart (delivered hart at (reach hart self.old)) self.old) }
+        ensures next { MatchOption result (self.new ≡ self.old) (λ at. self.new
+            ≡ placed hart (delivered hart at (reach hart self.old)) self.old) }
         ensures harts { self.new.events.harts ≡ self.old.events.harts }
         ensures instances { self.new.events.instances ≡ self.old.events.instances }
     {
@@ -218,7 +230,8 @@ impl Firmware {
         ensures code { result.reply.error ≡ (call hart eid fid args self.old.stacks (reach hart self.old)).code }
         ensures value { result.reply.value ≡ 0 }
         ensures written { result.written ≡ (call hart eid fid args self.old.stacks (reach hart self.old)).written }
-        ensures next { self.new ≡ placed hart (call hart eid fid args self.old.stacks (reach hart self.old)).reach self.old }
+        ensures next { self.new ≡ placed hart (call hart eid fid args self.old.stacks (reach hart self.old)).reach
+            self.old }
         ensures refused { is_success result.reply.error ≡ false → self.new ≡ self.old }
         ensures harts { self.new.events.harts ≡ self.old.events.harts }
         ensures instances { self.new.events.instances ≡ self.old.events.instances }
@@ -244,7 +257,10 @@ impl Firmware {
     /// Goes on with a hart at another place; all else stays.
     pub fn set_pc(&mut self, hart: u8, pc: u64)
         requires { hart < self.old.events.harts }
-        ensures { self.new ≡ record self.old { stacks = slice_set self.old.stacks hart (with_pc pc (stack_of hart self.old)) } }
+        ensures { self.new ≡ record self.old {
+          stacks =
+              slice_set self.old.stacks hart (with_pc pc (stack_of hart self.old));
+        } }
     {
         let stack = &mut self.stacks[hart as usize];
         stack.set_pc(pc);

@@ -19,6 +19,7 @@ pub holds_standing : (at : Instance) (vs : List Waiting) → holds at vs ≡ ltb
 holds_standing at [] = grind (arith, nat_tests)
 holds_standing at (v ∷ vs) = grind (arith, nat_tests, holds_standing at vs)
 
-pub taken_out : (at : Instance) (vs : List Waiting) → standing at vs < length vs → remove vs (standing at vs) ≡ without at vs
+pub taken_out : (at : Instance) (vs : List Waiting) → standing at vs < length vs → remove vs (standing at vs)
+    ≡ without at vs
 taken_out at [] h = absurd (omega arith)
 taken_out at (v ∷ vs) h = grind (arith, taken_out at vs)

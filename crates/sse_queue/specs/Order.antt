@@ -1,6 +1,6 @@
 -- A queue of events in order of urgency.
--- SBI 3.0, "Supervisor Software Events", event priority: the smaller priority first, and the smaller id at equal priority.
--- That a queue is what is kept of the events that wait is this project's own.
+-- SBI 3.0, "Supervisor Software Events", event priority: the smaller priority first, and the smaller id at equal
+-- priority. That a queue is what is kept of the events that wait is this project's own.
 use Rattle.std.specs.Prelude.{ℕ, ◌==◌, ◌&&◌, Bool, true, if◌then◌else◌, List, [], ◌∷◌, Option, Some, None}
 use Rattle.std.specs.List.{list_any, list_all}
 use Rattle.sse_base.specs.declared.ids.EventId.{EventId}

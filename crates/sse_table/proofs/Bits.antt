@@ -22,12 +22,14 @@ bit_at_place : (words : List ℕ) (n i : ℕ) (d : Bool) → i < n → get_or (b
 bit_at_place words n i d h = get_or-map-range_with_len (is_set words) 0 n i i d h (omega arith)
 
 -- words are known by their bits
-same_bits : (words : List ℕ) (bs : List Bool) (n : ℕ) → length bs ≡ n → ((k : ℕ) → k < n → get_or bs k false ≡ is_set words k) → bits words n ≡ bs
+same_bits : (words : List ℕ) (bs : List Bool) (n : ℕ) → length bs ≡ n
+    → ((k : ℕ) → k < n → get_or bs k false ≡ is_set words k) → bits words n ≡ bs
 same_bits words bs n l each = sym (fill_by_all (is_set words) bs n false l each)
 
 -- a bit is written, all others stay
 abbrev Written : List ℕ → ℕ → ℕ → Bool → Type 0
-Written words i w b = ((bit_at w (i % 64) == 1) ≡ b) × ((j : ℕ) → j < 64 → j ≢ i % 64 → bit_at w j ≡ bit_at (get_or words (i / 64) 0) j)
+Written words i w b = ((bit_at w (i % 64) == 1) ≡ b)
+    × ((j : ℕ) → j < 64 → j ≢ i % 64 → bit_at w j ≡ bit_at (get_or words (i / 64) 0) j)
 
 written_at : (words : List ℕ) (n i w j : ℕ) (b : Bool) → i < n → i / 64 < length words → Written words i w b → j < n →
     get_or (set (bits words n) i b) j false ≡ is_set (set words (i / 64) w) j
@@ -40,31 +42,47 @@ written_at words n i w j b h k p l =
       | inr ne ↦ elim (cases_eq (j / 64) (i / 64)) [
         | inl e ↦
             let apart : j % 64 ≢ i % 64 = omega arith
-            in rw (get_or-set_other (bits words n) i j b false ne, bit_at_place words n j false l, e, get_or-set_same words (i / 64) w 0 k)
+            in rw (
+              get_or-set_other (bits words n) i j b false ne,
+              bit_at_place words n j false l,
+              e,
+              get_or-set_same words (i / 64) w 0 k,
+            )
             (sym (ap (λ x. x == 1) (p.1 (j % 64) (omega arith) apart)))
         | inr apart ↦
-            rw (get_or-set_other (bits words n) i j b false ne, bit_at_place words n j false l, get_or-set_other words (i / 64) (j / 64) w 0 apart) refl
+            rw (
+              get_or-set_other (bits words n) i j b false ne,
+              bit_at_place words n j false l,
+              get_or-set_other words (i / 64) (j / 64) w 0 apart,
+            ) refl
       ]
     ]
 
 written : (words : List ℕ) (n i w : ℕ) (b : Bool) → i < n → i / 64 < length words → Written words i w b →
     bits (set words (i / 64) w) n ≡ set (bits words n) i b
 written words n i w b h k p =
-    same_bits (set words (i / 64) w) (set (bits words n) i b) n (length-set (bits words n) i b ∙ bits_length words n) (λ j l. written_at words n i w j b h k p l)
+    same_bits (set words (i / 64) w) (set (bits words n) i b) n (length-set (bits words n) i b
+    ∙ bits_length words n) (λ j l. written_at words n i w j b h k p l)
 
 pub one_set : (words : List ℕ) (n i : ℕ) → i < n → i / 64 < length words →
-    bits (set words (i / 64) (bit_or (get_or words (i / 64) 0) (1 * 2 ^ (i % 64) % 2 ^ 64))) n ≡ set (bits words n) i true
+    bits (set words (i / 64) (bit_or (get_or words (i / 64) 0) (1 * 2 ^ (i % 64) % 2 ^ 64))) n
+    ≡ set (bits words n) i true
 one_set words n i h k =
     let place : i % 64 < 64 = omega arith
-    in written words n i _ true h k
-    (rw (bit_at_set_same w64 (get_or words (i / 64) 0) (i % 64) place) refl, λ j l ne. bit_at_set_other w64 (get_or words (i / 64) 0) (i % 64) place j ne)
+    in written words n i _ true h k (
+      rw (bit_at_set_same w64 (get_or words (i / 64) 0) (i % 64) place) refl,
+      λ j l ne. bit_at_set_other w64 (get_or words (i / 64) 0) (i % 64) place j ne,
+    )
 
 pub one_cleared : (words : List ℕ) (n i : ℕ) → i < n → i / 64 < length words →
-    bits (set words (i / 64) (bit_and (get_or words (i / 64) 0) (bit_not w64 (1 * 2 ^ (i % 64) % 2 ^ 64)))) n ≡ set (bits words n) i false
+    bits (set words (i / 64) (bit_and (get_or words (i / 64) 0) (bit_not w64 (1 * 2 ^ (i % 64) % 2 ^ 64)))) n
+    ≡ set (bits words n) i false
 one_cleared words n i h k =
     let place : i % 64 < 64 = omega arith
-    in written words n i _ false h k
-    (rw (bit_at_clear_same w64 (get_or words (i / 64) 0) (i % 64) place) refl, λ j l ne. bit_at_clear_other w64 (get_or words (i / 64) 0) (i % 64) place j l ne)
+    in written words n i _ false h k (
+      rw (bit_at_clear_same w64 (get_or words (i / 64) 0) (i % 64) place) refl,
+      λ j l ne. bit_at_clear_other w64 (get_or words (i / 64) 0) (i % 64) place j l ne,
+    )
 
 -- words of zeros have no bit
 abbrev zeros : List ℕ
@@ -82,11 +100,13 @@ none_at i = rw (zero_word (i / 64), bit_at-zero (i % 64)) refl
 
 pub none_set : (n : ℕ) → bits (0 ∷ 0 ∷ 0 ∷ 0 ∷ []) n ≡ replicate n false
 none_set n =
-    same_bits zeros (replicate n false) n (length-replicate n false) (λ k l. get_or-replicate n k false false l ∙ sym (none_at k))
+    same_bits zeros (replicate n false) n (length-replicate n false) (λ k l. get_or-replicate n k false false l
+    ∙ sym (none_at k))
 
 pub bit_there : (words : List ℕ) (n i : ℕ) → i < length (bits words n) →
     slice_get (bits words n) i ≡ Some (bit_and (get_or words (i / 64) 0 / 2 ^ (i % 64)) 1 == 1)
 bit_there words n i h =
     let l : i < n = omega (arith, bits_length words n)
     in slice_get-get_or (bits words n) i false h
-    ∙ ap (λ b. Some b) (bit_at_place words n i false l ∙ sym (ap (λ x. x == 1) (shr_and_one (get_or words (i / 64) 0) (i % 64))))
+    ∙ ap (λ b. Some b) (bit_at_place words n i false l
+    ∙ sym (ap (λ x. x == 1) (shr_and_one (get_or words (i / 64) 0) (i % 64))))

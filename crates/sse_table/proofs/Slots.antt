@@ -19,9 +19,11 @@ slot_at [] es bs i at e b k l m p q r = absurd (omega arith)
 slot_at (x ∷ is) [] bs i at e b k l m p q r = absurd (omega arith)
 slot_at (x ∷ is) (y ∷ es) [] i at e b k l m p q r = absurd (omega arith)
 slot_at (x ∷ is) (y ∷ es) (z ∷ bs) zero at e b k l m p q r = cc
-slot_at (x ∷ is) (y ∷ es) (z ∷ bs) (suc i) at e b k l m p q r = slot_at is es bs i at e b (omega arith) (omega arith) (omega arith) p q r
+slot_at (x ∷ is) (y ∷ es) (z ∷ bs) (suc i) at e b k l m p q r =
+    slot_at is es bs i at e b (omega arith) (omega arith) (omega arith) p q r
 
-pub slots_length : (is : List Instance) (es : List Event) (bs : List Bool) → length es ≡ length is → length bs ≡ length is →
+pub slots_length : (is : List Instance) (es : List Event) (bs : List Bool) → length es ≡ length is
+    → length bs ≡ length is →
     length (joined is es bs) ≡ length is
 slots_length [] es bs p q = refl
 slots_length (x ∷ is) [] bs p q = absurd (omega arith)

@@ -35,7 +35,12 @@ impl Model for Table {
 
     ghost Value = { Events };
 
-    ghost view = { λ t. record { harts = t.harts; instances = t.instances.items; each = t.each.items; marks = t.marks } };
+    ghost view = { λ t. record {
+      harts = t.harts;
+      instances = t.instances.items;
+      each = t.each.items;
+      marks = t.marks;
+    } };
 
     ghost invariant = { λ t.
         (length t.each.items ≡ length t.instances.items)
@@ -334,7 +339,9 @@ impl Table {
         let event = self.each[i];
         match attr {
             attr::STATUS => {
-                event.state.number() + 4 * self.marks.test(i as u16) as u64 + 8 * event.inject as u64
+                event.state.number()
+                    + 4 * self.marks.test(i as u16) as u64
+                    + 8 * event.inject as u64
             }
             attr::PRIORITY => event.priority as u64,
             attr::CONFIG => event.oneshot as u64,

@@ -23,7 +23,8 @@ nearer x (Some y) = cond (is_more_urgent (y.0, id_of y.1) (x.0, id_of x.1)) y x
 first_put : (w : Waiting) (vs : List Waiting) → front (put_in w vs) ≡ Some (nearer (w.priority, w.at) (front vs))
 first_put w [] = refl
 first_put w (v ∷ vs) =
-    elim (is_before v w) as (λ b. front (cond b (v ∷ put_in w vs) (w ∷ v ∷ vs)) ≡ Some (cond b (v.priority, v.at) (w.priority, w.at))) [
+    elim (is_before v w) as (λ b. front (cond b (v ∷ put_in w vs) (w ∷ v ∷ vs))
+    ≡ Some (cond b (v.priority, v.at) (w.priority, w.at))) [
       | true ↦ refl
       | false ↦ refl
     ]
@@ -48,7 +49,8 @@ picked_is None top = refl
 picked_is (Some s) None = refl
 picked_is (Some s) (Some top) = refl
 
-pub picked_chosen : (h : ℕ) (top : Option Urgency) (l : Lines) (t : Events) → is_masked h l.masks ≡ false → queue_at h l ≡ line_for h l.masks t →
+pub picked_chosen : (h : ℕ) (top : Option Urgency) (l : Lines) (t : Events) → is_masked h l.masks ≡ false
+    → queue_at h l ≡ line_for h l.masks t →
     picked (front (queue_at h l)) top ≡ chosen h l.masks top t
 unfolding chosen
 picked_chosen h top l t u e =
@@ -57,7 +59,8 @@ picked_chosen h top l t u e =
     ∙ picked_is (least (filter (waits_for h l.masks) (slots t))) top
     ∙ sym (ap (λ b. above (least (cond b [] (filter (waits_for h l.masks) (slots t)))) top) u)
 
-pub none_chosen : (h : ℕ) (top : Option Urgency) (masks : List Bool) (t : Events) → is_masked h masks ≡ true → None ≡ chosen h masks top t
+pub none_chosen : (h : ℕ) (top : Option Urgency) (masks : List Bool) (t : Events) → is_masked h masks ≡ true
+    → None ≡ chosen h masks top t
 unfolding chosen
 none_chosen h top masks t u = sym (ap (λ b. above (least (cond b [] (filter (waits_for h masks) (slots t)))) top) u)
 
@@ -68,13 +71,17 @@ within zero (m ∷ masks) u = omega arith
 within (suc h) (m ∷ masks) u = omega (arith, within h masks u)
 
 -- what is picked of a hart's queue is what is chosen there
-pub first_chosen : (h : ℕ) (top : Option Urgency) (l : Lines) (t : Events) (q : List Waiting) → is_masked h l.masks ≡ false →
-    length l.queues ≡ length l.masks → q ≡ get_or l.queues h q → Holds l t → picked (front q) top ≡ chosen h l.masks top t
+pub first_chosen : (h : ℕ) (top : Option Urgency) (l : Lines) (t : Events) (q : List Waiting)
+    → is_masked h l.masks ≡ false →
+    length l.queues ≡ length l.masks → q ≡ get_or l.queues h q → Holds l t
+    → picked (front q) top ≡ chosen h l.masks top t
 first_chosen h top l t q u e here held =
     let none : List Waiting = []
     in let there : h < length l.queues = omega (arith, within h l.masks u)
-    in ap (λ x. picked (front x) top) (here ∙ get_or_default l.queues h q none there) ∙ picked_chosen h top l t u (held.each h there)
+    in ap (λ x. picked (front x) top) (here ∙ get_or_default l.queues h q none there)
+    ∙ picked_chosen h top l t u (held.each h there)
 
 -- where a hart is unmasked its queue is what can be delivered there
-pub is_deliverable : (h : ℕ) (masks : List Bool) (t : Events) → is_masked h masks ≡ false → line_for h masks t ≡ lined_up (deliverable h masks t)
+pub is_deliverable : (h : ℕ) (masks : List Bool) (t : Events) → is_masked h masks ≡ false
+    → line_for h masks t ≡ lined_up (deliverable h masks t)
 is_deliverable h masks t u = ap (λ b. lined_up (cond b [] (filter (waits_for h masks) (slots t)))) (sym u)

@@ -30,15 +30,19 @@ abbrev pub lined : List Entry → List Waiting
 lined [] = []
 lined (e ∷ es) = put_if e.waits e.one (lined es)
 
-pub by_slots : (h : ℕ) (masks : List Bool) (ss : List Slot) → lined_up (filter (waits_for h masks) ss) ≡ lined (entries h masks ss)
+pub by_slots : (h : ℕ) (masks : List Bool) (ss : List Slot) → lined_up (filter (waits_for h masks) ss)
+    ≡ lined (entries h masks ss)
 by_slots h masks [] = refl
 by_slots h masks (s ∷ ss) =
-    elim (waits_for h masks s) as (λ b. lined_up (cond b (s ∷ filter (waits_for h masks) ss) (filter (waits_for h masks) ss)) ≡ put_if b (waiting_of s) (lined (entries h masks ss))) [
+    elim (waits_for h masks s) as (λ b. lined_up (cond b (s
+    ∷ filter (waits_for h masks) ss) (filter (waits_for h masks) ss))
+    ≡ put_if b (waiting_of s) (lined (entries h masks ss))) [
       | true ↦ ap (put_in (waiting_of s)) (by_slots h masks ss)
       | false ↦ by_slots h masks ss
     ]
 
-pub entries-append : (h : ℕ) (masks : List Bool) (ss us : List Slot) → entries h masks (ss ++ us) ≡ entries h masks ss ++ entries h masks us
+pub entries-append : (h : ℕ) (masks : List Bool) (ss us : List Slot) → entries h masks (ss ++ us) ≡ entries h masks ss
+    ++ entries h masks us
 entries-append h masks [] us = refl
 entries-append h masks (s ∷ ss) us = ap (λ es. entry h masks s ∷ es) (entries-append h masks ss us)
 
@@ -65,11 +69,13 @@ no_two true y a b n p e r = let q = eq-eqb a b r in grind (arith, p, q)
 no_two false y a b n p e r = cc
 
 -- one entry may be put in last
-pub pulled : (ps qs : List Entry) (e : Entry) → with_id (id_of e.one.at) ps ≡ 0 → lined (ps ++ e ∷ qs) ≡ put_if e.waits e.one (lined (ps ++ qs))
+pub pulled : (ps qs : List Entry) (e : Entry) → with_id (id_of e.one.at) ps ≡ 0
+    → lined (ps ++ e ∷ qs) ≡ put_if e.waits e.one (lined (ps ++ qs))
 pulled [] qs e f = refl
 pulled (p ∷ ps) qs e f =
     ap (put_if p.waits p.one) (pulled ps qs e (omega arith))
-    ∙ swap_if p.waits e.waits p.one e.one (lined (ps ++ qs)) (λ x y r. no_two p.waits true (id_of p.one.at).0 (id_of e.one.at).0 (with_id (id_of e.one.at) ps) f x r)
+    ∙ swap_if p.waits e.waits p.one e.one (lined (ps ++ qs)) (λ x y r. no_two p.waits true (id_of p.one.at).0
+    (id_of e.one.at).0 (with_id (id_of e.one.at) ps) f x r)
 
 -- what is in line
 pub many : (es : List Entry) → length (lined es) ≡ waiting es
@@ -83,7 +89,8 @@ many (e ∷ es) =
 pub free : (id : EventId) (es : List Entry) → with_id id es ≡ 0 → has_id id (lined es) ≡ false
 free id [] f = refl
 free id (e ∷ es) f =
-    elim (e.waits) as (λ b. bit (b && ((id_of e.one.at).0 == id.0)) + with_id id es ≡ 0 → has_id id (put_if b e.one (lined es)) ≡ false) [
+    elim (e.waits) as (λ b. bit (b && ((id_of e.one.at).0 == id.0)) + with_id id es ≡ 0
+    → has_id id (put_if b e.one (lined es)) ≡ false) [
       | true ↦ λ g.
           let here : ((id_of e.one.at).0 == id.0) ≡ false = grind (arith, g)
           in rw (id_put id e.one (lined es), here) (free id es (omega arith))
@@ -91,9 +98,11 @@ free id (e ∷ es) f =
     ] f
 
 -- without one entry
-pub lone : (ps qs : List Entry) (e : Entry) → with_id (id_of e.one.at) (ps ++ qs) ≡ 0 → without e.one.at (lined (ps ++ e ∷ qs)) ≡ lined (ps ++ qs)
+pub lone : (ps qs : List Entry) (e : Entry) → with_id (id_of e.one.at) (ps ++ qs) ≡ 0
+    → without e.one.at (lined (ps ++ e ∷ qs)) ≡ lined (ps ++ qs)
 lone ps qs e f =
-    let none : holds e.one.at (lined (ps ++ qs)) ≡ false = not_held e.one.at (lined (ps ++ qs)) (free (id_of e.one.at) (ps ++ qs) f)
+    let none : holds e.one.at (lined (ps ++ qs)) ≡ false =
+    not_held e.one.at (lined (ps ++ qs)) (free (id_of e.one.at) (ps ++ qs) f)
     in let front : with_id (id_of e.one.at) ps ≡ 0 = omega (arith, with_id-append (id_of e.one.at) ps qs)
     in ap (without e.one.at) (pulled ps qs e front)
     ∙ elim (e.waits) as (λ b. without e.one.at (put_if b e.one (lined (ps ++ qs))) ≡ lined (ps ++ qs)) [

@@ -7,7 +7,9 @@ use Rattle.sse_base.specs.Choice.{first_unmasked}
 use Rattle.sse_queue.specs.declared.urgency.Waiting.{Waiting}
 
 first_at : (masks : List Bool) →
-    first_unmasked masks ≡ cond (nat_lt (position_or_len (λ m. not m) masks) (length masks)) (Some (position_or_len (λ m. not m) masks)) None
+    first_unmasked masks
+    ≡ cond (nat_lt (position_or_len (λ m. not m) masks) (length masks))
+    (Some (position_or_len (λ m. not m) masks)) None
 first_at [] = refl
 first_at (true ∷ masks) = grind (arith, nat_tests, first_at masks)
 first_at (false ∷ masks) = grind (arith, nat_tests)

@@ -44,7 +44,8 @@ pub record Few (ss : List Slot) : Type 0 where
   pub alone : (h : ℕ) (id : EventId) → tally (is_meant h id) (ats ss) ≤ 1
   pub few : (h : ℕ) → tally (may_run_on h) (ats ss) ≤ 8
 
-joined_less : (p : Instance → Bool) (is : List Instance) (es : List Event) (bs : List Bool) → tally p (ats (joined is es bs)) ≤ tally p is
+joined_less : (p : Instance → Bool) (is : List Instance) (es : List Event) (bs : List Bool)
+    → tally p (ats (joined is es bs)) ≤ tally p is
 joined_less p [] es bs = omega arith
 joined_less p (x ∷ is) [] bs = omega arith
 joined_less p (x ∷ is) (y ∷ es) [] = omega arith
@@ -53,7 +54,11 @@ joined_less p (x ∷ is) (y ∷ es) (z ∷ bs) = omega (arith, joined_less p is 
 pub few_slots : (is : List Instance) (es : List Event) (bs : List Bool) → FitsHarts is → Few (joined is es bs)
 few_slots is es bs f =
     record {
-      alone = λ h id. let a = f.alone h id in omega (arith, joined_less (is_meant h id) is es bs, tally_filter (is_meant h id) is);
+      alone = λ h id. let a = f.alone h id in omega (
+        arith,
+        joined_less (is_meant h id) is es bs,
+        tally_filter (is_meant h id) is,
+      );
       few = λ h. let a = f.few h in omega (arith, joined_less (may_run_on h) is es bs, tally_filter (may_run_on h) is);
     }
 
@@ -69,7 +74,8 @@ bit_more true true e = omega arith
 bit_more true false e = let p = e refl in cc
 bit_more false y e = omega arith
 
-waiting_less : (h : ℕ) (masks : List Bool) (ss : List Slot) → waiting (entries h masks ss) ≤ tally (may_run_on h) (ats ss)
+waiting_less : (h : ℕ) (masks : List Bool) (ss : List Slot)
+    → waiting (entries h masks ss) ≤ tally (may_run_on h) (ats ss)
 waiting_less h masks [] = omega arith
 waiting_less h masks (s ∷ ss) =
     omega (arith, bit_more (waits_for h masks s) (may_run_on h s.at) (waits_may_run h masks s), waiting_less h masks ss)
@@ -79,10 +85,16 @@ and_more true true z e = omega arith
 and_more true false z e = let p = e refl in cc
 and_more false y z e = omega arith
 
-with_id_less : (h : ℕ) (id : EventId) (masks : List Bool) (ss : List Slot) → with_id id (entries h masks ss) ≤ tally (is_meant h id) (ats ss)
+with_id_less : (h : ℕ) (id : EventId) (masks : List Bool) (ss : List Slot)
+    → with_id id (entries h masks ss) ≤ tally (is_meant h id) (ats ss)
 with_id_less h id masks [] = omega arith
 with_id_less h id masks (s ∷ ss) =
-    omega (arith, and_more (waits_for h masks s) (may_run_on h s.at) ((id_of s.at).0 == id.0) (waits_may_run h masks s), with_id_less h id masks ss)
+    omega (
+      arith,
+      and_more (waits_for h masks s) (may_run_on h s.at) ((id_of s.at).0 ==
+          id.0) (waits_may_run h masks s),
+      with_id_less h id masks ss,
+    )
 
 -- the others: none of the event, and fewer than 8, where the instance may run
 pub others : (h : ℕ) (m n : List Bool) (is js : List Slot) (s : Slot) → Few (is ++ s ∷ js) → may_run_on h s.at ≡ true →
@@ -95,6 +107,18 @@ others h m n is js s f r =
     in let one : bit (is_meant h id s.at) ≡ 1 = rw here refl
     in let run : bit (may_run_on h s.at) ≡ 1 = rw r refl
     in (
-      omega (arith, tally-append (is_meant h id) (ats is) (s.at ∷ ats js), with_id-append id (entries h m is) (entries h n js), with_id_less h id m is, with_id_less h id n js),
-      omega (arith, tally-append (may_run_on h) (ats is) (s.at ∷ ats js), waiting-append (entries h m is) (entries h n js), waiting_less h m is, waiting_less h n js),
+      omega (
+        arith,
+        tally-append (is_meant h id) (ats is) (s.at ∷ ats js),
+        with_id-append id (entries h m is) (entries h n js),
+        with_id_less h id m is,
+        with_id_less h id n js,
+      ),
+      omega (
+        arith,
+        tally-append (may_run_on h) (ats is) (s.at ∷ ats js),
+        waiting-append (entries h m is) (entries h n js),
+        waiting_less h m is,
+        waiting_less h n js,
+      ),
     )

@@ -23,12 +23,14 @@ Differ : Waiting → Waiting → Type 0
 Differ a b = (id_of a.at).0 ≡ (id_of b.at).0 → ⊥
 
 -- both in front of the rest, in either order
-two_in_front : (a b : Waiting) (vs : List Waiting) → ((id_of a.at).0 ≡ (id_of b.at).0 → ⊥) → put_in a vs ≡ a ∷ vs → put_in b vs ≡ b ∷ vs →
+two_in_front : (a b : Waiting) (vs : List Waiting) → ((id_of a.at).0 ≡ (id_of b.at).0 → ⊥) → put_in a vs ≡ a ∷ vs
+    → put_in b vs ≡ b ∷ vs →
     put_in a (b ∷ vs) ≡ put_in b (a ∷ vs)
 two_in_front a b vs d p q =
     elim (is_before b a) as (λ x. is_before b a ≡ x → put_in a (b ∷ vs) ≡ put_in b (a ∷ vs)) [
       | true ↦ λ e. before_it a b vs e ∙ ap (λ us. b ∷ us) p ∙ sym (behind_it b a vs (never_both b a e))
-      | false ↦ λ e. behind_it a b vs e ∙ sym (before_it b a vs (one_before b a e (λ r. d (sym r))) ∙ ap (λ us. a ∷ us) q)
+      | false ↦ λ e. behind_it a b vs e ∙ sym (before_it b a vs (one_before b a e (λ r. d (sym r)))
+          ∙ ap (λ us. a ∷ us) q)
     ] refl
 
 -- one in front of the rest, the other further behind
@@ -37,29 +39,33 @@ one_in_front : (a b v : Waiting) (vs : List Waiting) → is_before v a ≡ true 
 one_in_front a b v vs p q = before_it a b (v ∷ vs) (before_past v a b p q) ∙ ap (λ us. b ∷ us) (before_it a v vs p)
 
 -- events of different ids, in either order
-pub swap : (a b : Waiting) (vs : List Waiting) → ((id_of a.at).0 ≡ (id_of b.at).0 → ⊥) → put_in a (put_in b vs) ≡ put_in b (put_in a vs)
+pub swap : (a b : Waiting) (vs : List Waiting) → ((id_of a.at).0 ≡ (id_of b.at).0 → ⊥)
+    → put_in a (put_in b vs) ≡ put_in b (put_in a vs)
 swap a b [] d = two_in_front a b [] d refl refl
 swap a b (v ∷ vs) d =
     elim (is_before v a) as (λ x. is_before v a ≡ x → put_in a (put_in b (v ∷ vs)) ≡ put_in b (put_in a (v ∷ vs))) [
-      | true ↦ λ p. elim (is_before v b) as (λ y. is_before v b ≡ y → put_in a (put_in b (v ∷ vs)) ≡ put_in b (put_in a (v ∷ vs))) [
-        | true ↦ λ q.
-            ap (put_in a) (before_it b v vs q) ∙ before_it a v (put_in b vs) p ∙ ap (λ us. v ∷ us) (swap a b vs d)
-            ∙ sym (ap (put_in b) (before_it a v vs p) ∙ before_it b v (put_in a vs) q)
-        | false ↦ λ q.
-            ap (put_in a) (behind_it b v vs q) ∙ one_in_front a b v vs p q
-            ∙ sym (ap (put_in b) (before_it a v vs p) ∙ behind_it b v (put_in a vs) q)
-      ] refl
-      | false ↦ λ p. elim (is_before v b) as (λ y. is_before v b ≡ y → put_in a (put_in b (v ∷ vs)) ≡ put_in b (put_in a (v ∷ vs))) [
-        | true ↦ λ q.
-            ap (put_in a) (before_it b v vs q) ∙ behind_it a v (put_in b vs) p
-            ∙ sym (ap (put_in b) (behind_it a v vs p) ∙ one_in_front b a v vs q p)
-        | false ↦ λ q.
-            ap (put_in a) (behind_it b v vs q) ∙ two_in_front a b (v ∷ vs) d (behind_it a v vs p) (behind_it b v vs q)
-            ∙ sym (ap (put_in b) (behind_it a v vs p))
-      ] refl
+      | true ↦ λ p. elim (is_before v b) as (λ y. is_before v b ≡ y → put_in a (put_in b (v ∷ vs))
+          ≡ put_in b (put_in a (v ∷ vs))) [
+            | true ↦ λ q.
+                ap (put_in a) (before_it b v vs q) ∙ before_it a v (put_in b vs) p ∙ ap (λ us. v ∷ us) (swap a b vs d)
+                ∙ sym (ap (put_in b) (before_it a v vs p) ∙ before_it b v (put_in a vs) q)
+            | false ↦ λ q.
+                ap (put_in a) (behind_it b v vs q) ∙ one_in_front a b v vs p q
+                ∙ sym (ap (put_in b) (before_it a v vs p) ∙ behind_it b v (put_in a vs) q)
+          ] refl
+      | false ↦ λ p. elim (is_before v b) as (λ y. is_before v b ≡ y → put_in a (put_in b (v ∷ vs))
+          ≡ put_in b (put_in a (v ∷ vs))) [
+            | true ↦ λ q.
+                ap (put_in a) (before_it b v vs q) ∙ behind_it a v (put_in b vs) p
+                ∙ sym (ap (put_in b) (behind_it a v vs p) ∙ one_in_front b a v vs q p)
+            | false ↦ λ q.
+                ap (put_in a) (behind_it b v vs q) ∙ two_in_front a b (v ∷ vs) d (behind_it a v vs p) (behind_it b v vs q)
+                ∙ sym (ap (put_in b) (behind_it a v vs p))
+          ] refl
     ] refl
 
-pub swap_if : (x y : Bool) (a b : Waiting) (vs : List Waiting) → (x ≡ true → y ≡ true → (id_of a.at).0 ≡ (id_of b.at).0 → ⊥) →
+pub swap_if : (x y : Bool) (a b : Waiting) (vs : List Waiting)
+    → (x ≡ true → y ≡ true → (id_of a.at).0 ≡ (id_of b.at).0 → ⊥) →
     put_if x a (put_if y b vs) ≡ put_if y b (put_if x a vs)
 swap_if true true a b vs d = swap a b vs (d refl refl)
 swap_if true false a b vs d = refl
@@ -67,10 +73,12 @@ swap_if false true a b vs d = refl
 swap_if false false a b vs d = refl
 
 -- who is there after one is put in
-pub id_put : (id : EventId) (w : Waiting) (vs : List Waiting) → has_id id (put_in w vs) ≡ (((id_of w.at).0 == id.0) || has_id id vs)
+pub id_put : (id : EventId) (w : Waiting) (vs : List Waiting)
+    → has_id id (put_in w vs) ≡ (((id_of w.at).0 == id.0) || has_id id vs)
 id_put id w [] = refl
 id_put id w (v ∷ vs) =
-    elim (is_before v w) as (λ b. has_id id (cond b (v ∷ put_in w vs) (w ∷ v ∷ vs)) ≡ (((id_of w.at).0 == id.0) || has_id id (v ∷ vs))) [
+    elim (is_before v w) as (λ b. has_id id (cond b (v ∷ put_in w vs) (w ∷ v ∷ vs))
+    ≡ (((id_of w.at).0 == id.0) || has_id id (v ∷ vs))) [
       | true ↦ grind (arith, id_put id w vs)
       | false ↦ refl
     ]

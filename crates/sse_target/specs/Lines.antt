@@ -1,6 +1,6 @@
 -- What waits for each hart of a board, kept in order of urgency.
--- SBI 3.0, "Supervisor Software Events", event priority. That the events which wait for a hart are kept in a queue of its
--- own, so that a delivery doesn't look through all instances, is this project's own.
+-- SBI 3.0, "Supervisor Software Events", event priority. That the events which wait for a hart are kept in a queue of
+-- its own, so that a delivery doesn't look through all instances, is this project's own.
 use Rattle.std.specs.Prelude.{◌≡◌, ℕ, ◌<◌, Bool, true, false, List, [], ◌∷◌, length, filter, replicate, slice_index_or}
 use Rattle.sse_base.specs.declared.ids.Instance.{Instance}
 use Rattle.sse_base.specs.declared.events.Slot.{Slot}
@@ -29,8 +29,8 @@ abbrev pub lined_up : List Slot → List Waiting
 lined_up [] = []
 lined_up (s ∷ ss) = put_in (waiting_of s) (lined_up ss)
 
--- what waits for a hart, the most urgent first. Where the hart is unmasked this is what can be delivered there; while it is
--- masked its own local events wait
+-- what waits for a hart, the most urgent first. Where the hart is unmasked this is what can be delivered there; while
+-- it is masked its own local events wait
 abbrev pub line_for : ℕ → List Bool → Events → List Waiting
 line_for h masks t = lined_up (filter (waits_for h masks) (slots t))
 
@@ -40,5 +40,6 @@ pub record Holds (l : Lines) (t : Events) : Type 0 where
 
 -- the same but for one instance, which may be missing or out of date on the hart on which it is delivered
 pub record HoldsBut (at : Instance) (l : Lines) (t : Events) : Type 0 where
-  pub others : (h : ℕ) → h < length l.queues → is_hart h (target at (event at t).preferred l.masks) ≡ false → queue_at h l ≡ line_for h l.masks t
+  pub others : (h : ℕ) → h < length l.queues → is_hart h (target at (event at t).preferred l.masks) ≡ false
+      → queue_at h l ≡ line_for h l.masks t
   pub rest : (h : ℕ) → h < length l.queues → without at (queue_at h l) ≡ without at (line_for h l.masks t)

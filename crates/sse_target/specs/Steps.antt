@@ -28,7 +28,9 @@ put_if false w q = q
 
 -- after an instance changed
 abbrev pub renewed : ℕ → List Bool → Slot → List Waiting → List Waiting
-renewed h masks s q = put_if (is_hart h (waits_on masks s)) (waiting_of s) (taken_if (is_hart h (target s.at s.event.preferred masks)) s.at q)
+renewed h masks s q =
+    put_if (is_hart h (waits_on masks s)) (waiting_of s) (taken_if (is_hart h (target s.at s.event.preferred masks))
+    s.at q)
 
 -- an instance waited on a hart before or not, and now waits there or not
 abbrev pub moved : Bool → Bool → Waiting → List Waiting → List Waiting

@@ -24,7 +24,8 @@ fn leave(queue: &mut Queue, at: Instance)
 
 /// An instance waits no longer on a hart, where it did.
 fn take_out(queues: &mut [Queue], hart: Option<usize>, slot: &Slot)
-    ensures { (h : ℕ) → h < length queues.old → slice_index_or queues.new h [] ≡ taken_if (is_hart h hart) slot.now.at (slice_index_or queues.old h []) }
+    ensures { (h : ℕ) → h < length queues.old → slice_index_or queues.new h []
+        ≡ taken_if (is_hart h hart) slot.now.at (slice_index_or queues.old h []) }
 {
     if let Some(hart) = hart {
         if hart < queues.len() {
@@ -36,8 +37,10 @@ fn take_out(queues: &mut [Queue], hart: Option<usize>, slot: &Slot)
 
 /// An instance waits on a hart from now on.
 fn put_in(queues: &mut [Queue], hart: Option<usize>, slot: &Slot)
-    requires { (h : ℕ) → h < length queues.old → is_hart h hart ≡ true → Takes (waiting_of slot.now) (slice_index_or queues.old h []) }
-    ensures { (h : ℕ) → h < length queues.old → slice_index_or queues.new h [] ≡ put_if (is_hart h hart) (waiting_of slot.now) (slice_index_or queues.old h []) }
+    requires { (h : ℕ) → h < length queues.old → is_hart h hart ≡ true
+        → Takes (waiting_of slot.now) (slice_index_or queues.old h []) }
+    ensures { (h : ℕ) → h < length queues.old → slice_index_or queues.new h []
+        ≡ put_if (is_hart h hart) (waiting_of slot.now) (slice_index_or queues.old h []) }
 {
     if let Some(hart) = hart {
         if hart < queues.len() {
@@ -49,8 +52,10 @@ fn put_in(queues: &mut [Queue], hart: Option<usize>, slot: &Slot)
 
 /// After an instance changed: on the hart on which it is delivered it waits, or no longer.
 pub fn renew(queues: &mut [Queue], masks: &[bool], slot: &Slot)
-    requires { (h : ℕ) → h < length queues.old → is_hart h (waits_on masks.now slot.now) ≡ true → Takes (waiting_of slot.now) (taken_if true slot.now.at (slice_index_or queues.old h [])) }
-    ensures { (h : ℕ) → h < length queues.old → slice_index_or queues.new h [] ≡ renewed h masks.now slot.now (slice_index_or queues.old h []) }
+    requires { (h : ℕ) → h < length queues.old → is_hart h (waits_on masks.now slot.now) ≡ true
+        → Takes (waiting_of slot.now) (taken_if true slot.now.at (slice_index_or queues.old h [])) }
+    ensures { (h : ℕ) → h < length queues.old → slice_index_or queues.new h []
+        ≡ renewed h masks.now slot.now (slice_index_or queues.old h []) }
 {
     take_out(queues, target(masks, slot.at, slot.event.preferred), slot);
     put_in(queues, waits_on(masks, slot), slot);
@@ -58,8 +63,11 @@ pub fn renew(queues: &mut [Queue], masks: &[bool], slot: &Slot)
 
 /// After masks changed: an instance waits where it is delivered now, if it waited.
 fn follow(queues: &mut [Queue], before: &[bool], after: &[bool], slot: &Slot)
-    requires { (h : ℕ) → h < length queues.old → waits_for h before.now slot.now ≡ false → waits_for h after.now slot.now ≡ true → Takes (waiting_of slot.now) (slice_index_or queues.old h []) }
-    ensures { (h : ℕ) → h < length queues.old → slice_index_or queues.new h [] ≡ moved (waits_for h before.now slot.now) (waits_for h after.now slot.now) (waiting_of slot.now) (slice_index_or queues.old h []) }
+    requires { (h : ℕ) → h < length queues.old → waits_for h before.now slot.now ≡ false
+        → waits_for h after.now slot.now ≡ true → Takes (waiting_of slot.now) (slice_index_or queues.old h []) }
+    ensures { (h : ℕ) → h < length queues.old → slice_index_or queues.new h []
+        ≡ moved (waits_for h before.now slot.now) (waits_for h after.now slot.now) (waiting_of slot.now)
+        (slice_index_or queues.old h []) }
 {
     let from = waits_on(before, slot);
     let to = waits_on(after, slot);

@@ -13,14 +13,17 @@ loop-i-init c = λ h k. c.requires.each h k ∙ none_followed h c.args.before.no
 pub follow-requires : goal.follow-requires
 follow-requires c = λ h k x y.
     subst (Takes (waiting_of c.slot-slot.result)) (sym (c.loop-i.invariant h k))
-    (followed_takes h c.loop-i.i c.args.before.now c.args.after.now c.args.table.now c.slot-slot.result c.requires.board c.slot-slot.ensures x y)
+    (followed_takes h c.loop-i.i c.args.before.now c.args.after.now c.args.table.now c.slot-slot.result
+    c.requires.board c.slot-slot.ensures x y)
 
 pub loop-i-preserved : goal.loop-i-preserved
 loop-i-preserved c = λ h k.
     let here : h < length c.loop-i.queues = omega arith
     in c.follow.ensures h here
-    ∙ ap (moved (waits_for h c.args.before.now c.slot-slot.result) (waits_for h c.args.after.now c.slot-slot.result) (waiting_of c.slot-slot.result)) (c.loop-i.invariant h here)
-    ∙ one_followed h c.loop-i.i c.args.before.now c.args.after.now c.args.table.now c.slot-slot.result c.requires.board c.slot-slot.ensures
+    ∙ ap (moved (waits_for h c.args.before.now c.slot-slot.result) (waits_for h c.args.after.now c.slot-slot.result)
+    (waiting_of c.slot-slot.result)) (c.loop-i.invariant h here)
+    ∙ one_followed h c.loop-i.i c.args.before.now c.args.after.now c.args.table.now c.slot-slot.result
+    c.requires.board c.slot-slot.ensures
 
 pub returns : goal.returns
 returns c = λ h k.

@@ -5,4 +5,5 @@ use Rattle.sse_target.proofs.Waits.{between}
 use Rattle.sse_target.proofs.lines.follow_all.Given as goal
 
 abbrev pub invariant-loop-i : goal.invariant-loop-i
-invariant-loop-i l = (h : ℕ) → h < length l.queues → get_or l.queues h [] ≡ between h l.i l.before l.after (slots l.table)
+invariant-loop-i l = (h : ℕ) → h < length l.queues
+    → get_or l.queues h [] ≡ between h l.i l.before l.after (slots l.table)

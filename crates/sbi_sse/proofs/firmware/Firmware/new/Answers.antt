@@ -5,6 +5,7 @@ pub invariant_of-result : goal.invariant_of-result
 invariant_of-result c =
     rw (c.in_ok-table.ensures, c.new-2.ensures, c.in-Ok.ensures)
     (record {
-      kept = fresh_kept c.args.harts c.args.events.now c.args.starts.now c.requires.events c.requires.distinct c.requires.starts;
+      kept = fresh_kept c.args.harts c.args.events.now c.args.starts.now c.requires.events c.requires.distinct
+          c.requires.starts;
       serves = fresh_serves c.args.harts c.args.events.now c.requires.events c.requires.distinct;
     })
