@@ -1,5 +1,8 @@
 //! Urgency, masks and targets, by the events that wait.
 
+ghost use Rattle.std.specs.Prelude.{◌≡◌, true};
+ghost use Rattle.sse_base.specs.Start.{are_distinct};
+
 use crate::acts::{Act, BASE, GLOBAL, SHARED, all_happen, happens, injectable};
 use sbi_sse::{EventDecl, EventId, Firmware, Instance, Looks, SbiCode};
 use std::process::Abort;
@@ -165,7 +168,9 @@ const GLOBALS: [(u32, u64); 8] = [
 ];
 
 /// Each of them, as a board declares it.
-fn declared() -> [EventDecl; 8] {
+fn declared() -> [EventDecl; 8]
+    ensures { are_distinct result ≡ true }
+{
     [
         injectable(0x8000),
         injectable(0xc000),

@@ -1,5 +1,8 @@
 //! Several harts: an event that they share, and the events that each has of its own.
 
+ghost use Rattle.std.specs.Prelude.{◌≡◌, true};
+ghost use Rattle.sse_base.specs.Start.{are_distinct};
+
 use crate::acts::{Act, BASE, GLOBAL, SHARED, all_happen, happens, injectable};
 use sbi_sse::{EventDecl, EventId, Firmware, Instance, Privilege, Regs, SbiCode};
 use std::process::Abort;
@@ -133,7 +136,9 @@ fn unwind(rt: &impl Abort, firmware: &mut Firmware, hart: u8) {
 }
 
 /// Each of these events as a board declares it.
-fn declared() -> [EventDecl; 8] {
+fn declared() -> [EventDecl; 8]
+    ensures { are_distinct result ≡ true }
+{
     [
         injectable(0x0),
         injectable(0x4000),
