@@ -1,26 +1,22 @@
 -- What a drain has read of its record stays the record's, whatever the drain or an error does.
-use Rattle.std.proofs.Common.{◌≡◌, ◌≢◌, ℕ, ◌<◌, ◌≤◌, Bool, true, false, cond, eqb, ◌==◌, ◌||◌, List, length, set, slice_get, Option, Some, None, refl, inl, inr, sym, ap, ◌∙◌, subst, arith}
+use Rattle.std.proofs.Common.{◌≡◌, ℕ, ◌<◌, Bool, true, false, cond, eqb, ◌==◌, ◌||◌, List, length, slice_get, Option, Some, None, refl, inl, inr, sym, ap, ◌∙◌, subst, arith}
 use Rattle.std.specs.Prelude.{IfSome, IsNone, IsSome, ◌↔◌}
 use Rattle.std.specs.Option.{option_map, option_eq}
 use Rattle.std.proofs.lemmas.List.{length-set}
-use Rattle.std.proofs.lemmas.Bool.{cases_Bool, cases_eq, true≢false}
-use Rattle.std.proofs.lemmas.Option.{same_Some, none-some, slice_get_within}
-use Rattle.reri_fields.specs.declared.report.Report.{Report}
+use Rattle.std.proofs.lemmas.Bool.{cases_Bool, true≢false}
+use Rattle.std.proofs.lemmas.Option.{same_Some, slice_get_within}
 use Rattle.reri_fields.specs.declared.report.RecordCopy.{RecordCopy}
-use Rattle.reri_fields.specs.declared.report.Logged.{Logged}
-use Rattle.reri_fields.specs.declared.report.Logged.TheVariants.{Disabled, Counted, Wrote, Kept}
 use Rattle.reri_fields.specs.declared.drain.Phase.{Phase}
-use Rattle.reri_fields.specs.declared.drain.Phase.TheVariants.{Scan, Claim, Address, Info, Supplement, Time, Check, Invalidate, Signal}
+use Rattle.reri_fields.specs.declared.drain.Phase.TheVariants.{Address, Check}
 use Rattle.reri_fields.specs.declared.severity.Severity.TheVariants.{Ce, Ued, Uec}
 use Rattle.reri_fields.specs.Fields.{StatusFields, status_fields, greatest}
 use Rattle.reri_fields.specs.Records.{IsRecord}
 use Rattle.reri_fields.specs.Banks.{BankView}
 use Rattle.reri_fields.specs.Block.{IsCopy}
 use Rattle.reri_fields.specs.Drain.{Draining}
-use Rattle.reri_log.specs.Update.{Updates, is_written}
 use Rattle.reri_bank.specs.Registers.{OneChanges, IsClaimed, claimed}
-use Rattle.reri_bank.proofs.Stands.{get-set_same, get-set_other}
-use Rattle.ras_drain.specs.Fits.{DrainView, has_record, AreRead, HoldsRecord, FitsWhere, Fits}
+use Rattle.reri_bank.proofs.Stands.{get-set_same}
+use Rattle.ras_drain.specs.Fits.{AreRead, HoldsRecord}
 
 -- ---- A claim ----
 
@@ -37,10 +33,10 @@ pub claim_holds : (d : Draining) (got : RecordCopy) (before bank : BankView) (co
 claim_holds d got before bank copy h one there =
     let within = slice_get_within before.copies d.rec one.before one.was in
     let after : one.after ≡ copy = same_Some one.after copy (sym (get-set_same before.copies d.rec one.after within)
-        ∙ ap (λ copies. slice_get copies d.rec) (sym one.is) ∙ there) in
+    ∙ ap (λ copies. slice_get copies d.rec) (sym one.is) ∙ there) in
     let same : h.copy ≡ one.before = same_Some h.copy one.before (sym h.there ∙ one.was) in
     let valid = ap (λ f. f.valid) one.changes.status ∙ claimed_valid (status_fields one.before.status)
-        ∙ ap (λ c. (status_fields c.status).valid) (sym same) ∙ h.valid in
+    ∙ ap (λ c. (status_fields c.status).valid) (sym same) ∙ h.valid in
     record {
       copy = copy;
       there = there;
@@ -59,13 +55,15 @@ read_holds d phase got next bank copy h there step =
       copy = copy;
       there = there;
       valid = ap (λ c. (status_fields c.status).valid) (sym same) ∙ h.valid;
-      read = λ on. step (subst (AreRead d.phase got) same (h.read (ap (λ c. (status_fields c.status).in_progress) same ∙ on)));
+      read = λ on. step
+          (subst (AreRead d.phase got) same (h.read (ap (λ c. (status_fields c.status).in_progress) same ∙ on)));
     }
 
 -- ---- A Check ----
 
 -- the copy that is published is the record's six registers as they are now
-pub whole : (d : Draining) (got : RecordCopy) (bank : BankView) (copy : RecordCopy) → HoldsRecord (record d { phase = Check }) got bank
+pub whole : (d : Draining) (got : RecordCopy) (bank : BankView) (copy : RecordCopy)
+    → HoldsRecord (record d { phase = Check }) got bank
     → slice_get bank.copies d.rec ≡ Some copy → (status_fields copy.status).in_progress ≡ true
     → record got { status = copy.status } ≡ copy
 whole d got bank copy h there on =
@@ -86,15 +84,19 @@ none_set a b c h k l = rw (h, k, l) refl
 greatest_some : (fields : StatusFields) → (fields.ce || fields.ued || fields.uec) ≡ true → IsSome (greatest fields)
 unfolding greatest
 greatest_some fields h =
-    elim (cases_Bool fields.uec) as (λ _. IsSome (cond fields.uec (Some Uec) (cond fields.ued (Some Ued) (cond fields.ce (Some Ce) None)))) [
+    elim (cases_Bool fields.uec) as (λ _. IsSome
+    (cond fields.uec (Some Uec) (cond fields.ued (Some Ued) (cond fields.ce (Some Ce) None)))) [
       | inl uec ↦ rw uec refl
       | inr not_uec ↦
-          rw not_uec (elim (cases_Bool fields.ued) as (λ _. IsSome (cond fields.ued (Some Ued) (cond fields.ce (Some Ce) None))) [
+          rw not_uec
+          (elim (cases_Bool fields.ued) as (λ _. IsSome
+          (cond fields.ued (Some Ued) (cond fields.ce (Some Ce) None))) [
             | inl ued ↦ rw ued refl
             | inr not_ued ↦
                 rw not_ued (elim (cases_Bool fields.ce) as (λ _. IsSome (cond fields.ce (Some Ce) None)) [
                   | inl ce ↦ rw ce refl
-                  | inr not_ce ↦ absurd (true≢false (sym h ∙ none_set fields.ce fields.ued fields.uec not_ce not_ued not_uec))
+                  | inr not_ce ↦
+                      absurd (true≢false (sym h ∙ none_set fields.ce fields.ued fields.uec not_ce not_ued not_uec))
                 ])
           ])
     ]
@@ -120,7 +122,8 @@ pub granted : (r : Option ℕ) (P Q : Type 0) → (IsNone r ↔ ¬ P) → P → 
 granted None P Q h p q = absurd (h.0 refl p)
 granted (Some x) P Q h p q = q
 
-pub one_within : (change : RecordCopy → RecordCopy → Type 0) (rec : ℕ) (old new : List RecordCopy) → OneChanges change rec old new → rec < length new
+pub one_within : (change : RecordCopy → RecordCopy → Type 0) (rec : ℕ) (old new : List RecordCopy)
+    → OneChanges change rec old new → rec < length new
 one_within change rec old new one =
     let within = slice_get_within old rec one.before one.was in
     omega (arith, ap length one.is, length-set old rec one.after)
@@ -130,9 +133,11 @@ is_one true = refl
 is_one false = refl
 
 -- an invalidation answers 1 exactly where the record was claimed
-pub cleared_told : (r : Option ℕ) (copies : List RecordCopy) (rec : ℕ) (copy : RecordCopy) → slice_get copies rec ≡ Some copy
+pub cleared_told : (r : Option ℕ) (copies : List RecordCopy) (rec : ℕ) (copy : RecordCopy)
+    → slice_get copies rec ≡ Some copy
     → (IsNone r ↔ ¬ (rec < length copies))
-    → IfSome r (λ value. option_map (λ c. cond (status_fields c.status).in_progress 1 0) (slice_get copies rec) ≡ Some value)
+    → IfSome r (λ value. option_map (λ c. cond (status_fields c.status).in_progress 1 0) (slice_get copies rec)
+    ≡ Some value)
     → option_eq eqb r (Some 1) ≡ (status_fields copy.status).in_progress
 cleared_told None copies rec copy there none gives = absurd (none.0 refl (slice_get_within copies rec copy there))
 cleared_told (Some value) copies rec copy there none gives =

@@ -1,4 +1,5 @@
--- When a drain fits its bank: what it has read of a record is still what stands there, unless an error wrote the record.
+-- When a drain fits its bank: what it has read of a record is still what stands there, unless an error wrote the
+-- record.
 -- Read-in-progress is that of RERI 1.0 (`rdip` of `status_i`); all else is this project's own.
 use Rattle.std.specs.Prelude.{◌≡◌, ◌≤◌, ℕ, Bool, true, false, List, length, slice_get, Option, Some, None}
 use Rattle.reri_fields.specs.declared.report.RecordCopy.{RecordCopy}
@@ -8,7 +9,8 @@ use Rattle.reri_fields.specs.Fields.{status_fields}
 use Rattle.reri_fields.specs.Banks.{BankView}
 use Rattle.reri_fields.specs.Drain.{Draining}
 
--- what contracts see of a drain: where it is while it is under way, how many copies it gathers, and the registers that it
+-- what contracts see of a drain: where it is while it is under way, how many copies it gathers, and the registers that
+-- it
 -- has read since its last claim
 pub record DrainView : Type 0 where
   pub drain : Option Draining
@@ -35,9 +37,11 @@ AreRead Address got copy = got.control ≡ copy.control
 AreRead Info got copy = (got.control ≡ copy.control) × (got.address ≡ copy.address)
 AreRead Supplement got copy = (got.control ≡ copy.control) × (got.address ≡ copy.address) × (got.info ≡ copy.info)
 AreRead Time got copy =
-    (got.control ≡ copy.control) × (got.address ≡ copy.address) × (got.info ≡ copy.info) × (got.supplement ≡ copy.supplement)
+    (got.control ≡ copy.control) × (got.address ≡ copy.address) × (got.info ≡ copy.info)
+    × (got.supplement ≡ copy.supplement)
 AreRead Check got copy =
-    (got.control ≡ copy.control) × (got.address ≡ copy.address) × (got.info ≡ copy.info) × (got.supplement ≡ copy.supplement)
+    (got.control ≡ copy.control) × (got.address ≡ copy.address) × (got.info ≡ copy.info)
+    × (got.supplement ≡ copy.supplement)
     × (got.time ≡ copy.time)
 AreRead Invalidate got copy = Unit {0}
 AreRead Signal got copy = Unit {0}

@@ -1,7 +1,7 @@
--- How the code keeps a drain that is under way, and what its phases leave. This describes the code; no public clause cites
+-- How the code keeps a drain that is under way, and what its phases leave. This describes the code; no public clause
+-- cites
 -- it.
 use Rattle.std.specs.Prelude.{◌≡◌, ◌≤◌, ◌<◌, ℕ, Bool, true, false, List, length, Option, Some, None}
-use Rattle.std.specs.Option.{option_map}
 use Rattle.reri_fields.specs.declared.report.RecordCopy.{RecordCopy}
 use Rattle.reri_fields.specs.declared.drain.Phase.{Phase}
 use Rattle.reri_fields.specs.declared.drain.Phase.TheVariants.{Scan, Claim, Address, Info, Supplement, Time, Check, Invalidate, Signal}
@@ -38,16 +38,21 @@ IsWithin gather None = Unit {0}
 IsWithin gather (Some at) = (gather ≤ 4) × (is_gathering at.phase ≡ true → at.published < gather)
 
 -- what a phase leaves that does not touch the slot
-pub record Moves (at : At) (phase : Phase) (gather : ℕ) (before bank : BankView) (got : RecordCopy) (next : Option At) (note : DrainNote) : Type 0 where
-  pub does : (plan : BankPlan) (s : BankState) (slot : List RecordCopy) → gather ≡ plan.gather → IsAt plan s before slot → Took plan (phase_step plan s (draining at) phase) (where_is next) bank slot note
+pub record Moves (at : At) (phase : Phase) (gather : ℕ) (before bank : BankView) (got : RecordCopy) (next : Option At)
+    (note : DrainNote) : Type 0 where
+  pub does : (plan : BankPlan) (s : BankState) (slot : List RecordCopy) → gather ≡ plan.gather
+      → IsAt plan s before slot → Took plan (phase_step plan s (draining at) phase) (where_is next) bank slot note
   pub fits : FitsWhere (where_is next) got bank
   pub room : (slot : List RecordCopy) → length slot ≤ at.published → HasRoom (where_is next) slot
   pub within : IsWithin gather next
 
--- what any phase leaves: the drain, the bank, the slot and the note that the book gives; the drain fits the bank, the slot
+-- what any phase leaves: the drain, the bank, the slot and the note that the book gives; the drain fits the bank, the
+-- slot
 -- has room, and the drain is within its numbers
-pub record Leaves (at : At) (phase : Phase) (gather : ℕ) (before bank : BankView) (old slot : List RecordCopy) (got : RecordCopy) (next : Option At) (note : DrainNote) : Type 0 where
-  pub does : (plan : BankPlan) (s : BankState) → gather ≡ plan.gather → IsAt plan s before old → Took plan (phase_step plan s (draining at) phase) (where_is next) bank slot note
+pub record Leaves (at : At) (phase : Phase) (gather : ℕ) (before bank : BankView) (old slot : List RecordCopy)
+    (got : RecordCopy) (next : Option At) (note : DrainNote) : Type 0 where
+  pub does : (plan : BankPlan) (s : BankState) → gather ≡ plan.gather → IsAt plan s before old
+      → Took plan (phase_step plan s (draining at) phase) (where_is next) bank slot note
   pub fits : FitsWhere (where_is next) got bank
   pub room : HasRoom (where_is next) slot
   pub within : IsWithin gather next

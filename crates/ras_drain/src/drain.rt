@@ -8,7 +8,7 @@ ghost use Rattle.reri_fields.specs.Drain.{BankPlan, BankState, Draining, fresh_d
 ghost use Rattle.ras_drain.specs.Fits.{Fits, HasRoom};
 ghost use Rattle.ras_drain.specs.Steps.{IsAt, Took, TornAfterClaim, StoodAfterCheck};
 
-use crate::phases::{advance, At};
+use crate::phases::{At, advance};
 use ghes_block::Slot;
 use reri_bank::Bank;
 use reri_fields::{DrainNote, Phase, RecordCopy};

@@ -176,7 +176,10 @@ fn invalidate(at: At, gather: u8, bank: &mut Bank) -> (Option<At>, DrainNote)
     ensures { (got : RecordCopy) → Moves at Phase.Invalidate gather bank.old bank.new got result.0 result.1 }
 {
     let cleared = bank.access(Access::Invalidate { rec: at.rec }) == Some(1);
-    (after_invalidate(at, gather), DrainNote::Invalidated { cleared })
+    (
+        after_invalidate(at, gather),
+        DrainNote::Invalidated { cleared },
+    )
 }
 
 /// Where a drain is after an Invalidate.

@@ -1,7 +1,7 @@
 -- Each phase by its own function.
 use Rattle.std.proofs.Common.{refl, sym, ap, subst, arith}
 use Rattle.std.proofs.lemmas.Option.{slice_get_within}
-use Rattle.reri_fields.specs.declared.drain.Phase.TheVariants.{Scan, Claim, Address, Info, Supplement, Time, Check, Invalidate, Signal}
+use Rattle.reri_fields.specs.declared.drain.Phase.TheVariants.{Scan, Claim, Address, Info, Supplement, Time, Check, Invalidate}
 use Rattle.ras_drain.specs.Fits.{has_record, HoldsRecord}
 use Rattle.ras_drain.specs.Inside.{draining, is_gathering, Leaves}
 use Rattle.ras_drain.proofs.Phased.{leaves_at, reads_leave}
@@ -55,14 +55,16 @@ pub returns-in-Scan : goal.returns-in-Scan
 unfolding is_gathering
 returns-in-Scan c =
     let below = c.requires.within.1 (ap is_gathering c.in-Scan.is) in
-    leaves_at c.args.at Scan c.args.gather c.args.bank.now c.scan.new.bank c.args.slot.now c.args.got.now c.scan.result.0 c.scan.result.1 c.in-Scan.is c.requires.room
+    leaves_at c.args.at Scan c.args.gather c.args.bank.now c.scan.new.bank c.args.slot.now c.args.got.now
+    c.scan.result.0 c.scan.result.1 c.in-Scan.is c.requires.room
     (c.scan.ensures c.args.gather c.args.got.now c.requires.within.0 below)
 
 pub returns-in-Claim : goal.returns-in-Claim
 unfolding is_gathering
 returns-in-Claim c =
     let below = c.requires.within.1 (ap is_gathering c.in-Claim.is) in
-    leaves_at c.args.at Claim c.args.gather c.args.bank.now c.claim.new.bank c.args.slot.now c.claim.new.got c.claim.result.0 c.claim.result.1 c.in-Claim.is c.requires.room
+    leaves_at c.args.at Claim c.args.gather c.args.bank.now c.claim.new.bank c.args.slot.now c.claim.new.got
+    c.claim.result.0 c.claim.result.1 c.in-Claim.is c.requires.room
     (c.claim.ensures c.args.gather c.requires.within.0 below)
 
 pub returns-in-Address : goal.returns-in-Address
@@ -70,37 +72,49 @@ unfolding has_record is_gathering
 returns-in-Address c =
     let holds = c.requires.fits (ap has_record c.in-Address.is) in
     let below = c.requires.within.1 (ap is_gathering c.in-Address.is) in
-    reads_leave c.args.at Address Info 2 c.args.gather c.args.bank.now c.args.slot.now c.args.got.now _ c.copy_of.result c.has_read.result c.in-Address.is (λ plan s. refl) c.has_read.ensures holds c.copy_of.ensures.value (λ k. (k, refl)) c.requires.within.0 below c.requires.room
+    reads_leave c.args.at Address Info 2 c.args.gather c.args.bank.now c.args.slot.now c.args.got.now _
+    c.copy_of.result c.has_read.result c.in-Address.is (λ plan s. refl) c.has_read.ensures holds
+    c.copy_of.ensures.value (λ k. (k, refl)) c.requires.within.0 below c.requires.room
 
 pub returns-in-Info : goal.returns-in-Info
 unfolding has_record is_gathering
 returns-in-Info c =
     let holds = c.requires.fits (ap has_record c.in-Info.is) in
     let below = c.requires.within.1 (ap is_gathering c.in-Info.is) in
-    reads_leave c.args.at Info Supplement 3 c.args.gather c.args.bank.now c.args.slot.now c.args.got.now _ c.copy_of-in-Info.result c.has_read-in-Info.result c.in-Info.is (λ plan s. refl) c.has_read-in-Info.ensures holds c.copy_of-in-Info.ensures.value (λ k. (k.0, k.1, refl)) c.requires.within.0 below c.requires.room
+    reads_leave c.args.at Info Supplement 3 c.args.gather c.args.bank.now c.args.slot.now c.args.got.now _
+    c.copy_of-in-Info.result c.has_read-in-Info.result c.in-Info.is (λ plan s. refl) c.has_read-in-Info.ensures
+    holds c.copy_of-in-Info.ensures.value (λ k. (k.0, k.1, refl)) c.requires.within.0 below c.requires.room
 
 pub returns-in-Supplement : goal.returns-in-Supplement
 unfolding has_record is_gathering
 returns-in-Supplement c =
     let holds = c.requires.fits (ap has_record c.in-Supplement.is) in
     let below = c.requires.within.1 (ap is_gathering c.in-Supplement.is) in
-    reads_leave c.args.at Supplement Time 4 c.args.gather c.args.bank.now c.args.slot.now c.args.got.now _ c.copy_of-in-Supplement.result c.has_read-in-Supplement.result c.in-Supplement.is (λ plan s. refl) c.has_read-in-Supplement.ensures holds c.copy_of-in-Supplement.ensures.value (λ k. (k.0, k.1, k.2, refl)) c.requires.within.0 below c.requires.room
+    reads_leave c.args.at Supplement Time 4 c.args.gather c.args.bank.now c.args.slot.now c.args.got.now _
+    c.copy_of-in-Supplement.result c.has_read-in-Supplement.result c.in-Supplement.is (λ plan s. refl)
+    c.has_read-in-Supplement.ensures holds c.copy_of-in-Supplement.ensures.value (λ k. (k.0, k.1, k.2, refl))
+    c.requires.within.0 below c.requires.room
 
 pub returns-in-Time : goal.returns-in-Time
 unfolding has_record is_gathering
 returns-in-Time c =
     let holds = c.requires.fits (ap has_record c.in-Time.is) in
     let below = c.requires.within.1 (ap is_gathering c.in-Time.is) in
-    reads_leave c.args.at Time Check 5 c.args.gather c.args.bank.now c.args.slot.now c.args.got.now _ c.copy_of-in-Time.result c.has_read-in-Time.result c.in-Time.is (λ plan s. refl) c.has_read-in-Time.ensures holds c.copy_of-in-Time.ensures.value (λ k. (k.0, k.1, k.2, k.3, refl)) c.requires.within.0 below c.requires.room
+    reads_leave c.args.at Time Check 5 c.args.gather c.args.bank.now c.args.slot.now c.args.got.now _
+    c.copy_of-in-Time.result c.has_read-in-Time.result c.in-Time.is (λ plan s. refl) c.has_read-in-Time.ensures
+    holds c.copy_of-in-Time.ensures.value (λ k. (k.0, k.1, k.2, k.3, refl)) c.requires.within.0 below
+    c.requires.room
 
 pub returns-in-Check : goal.returns-in-Check
 unfolding is_gathering
 returns-in-Check c =
     let below = c.requires.within.1 (ap is_gathering c.in-Check.is) in
-    subst (λ p. Leaves c.args.at p c.args.gather c.args.bank.now c.args.bank.now c.args.slot.now c.check.new.slot c.args.got.now c.check.result.0 c.check.result.1) (sym c.in-Check.is)
+    subst (λ p. Leaves c.args.at p c.args.gather c.args.bank.now c.args.bank.now c.args.slot.now c.check.new.slot
+    c.args.got.now c.check.result.0 c.check.result.1) (sym c.in-Check.is)
     (c.check.ensures c.args.gather c.requires.within.0 below)
 
 pub returns-in-Invalidate : goal.returns-in-Invalidate
 returns-in-Invalidate c =
-    leaves_at c.args.at Invalidate c.args.gather c.args.bank.now c.invalidate.new.bank c.args.slot.now c.args.got.now c.invalidate.result.0 c.invalidate.result.1 c.in-Invalidate.is c.requires.room
+    leaves_at c.args.at Invalidate c.args.gather c.args.bank.now c.invalidate.new.bank c.args.slot.now c.args.got.now
+    c.invalidate.result.0 c.invalidate.result.1 c.in-Invalidate.is c.requires.room
     (c.invalidate.ensures c.args.got.now)
