@@ -4,6 +4,7 @@ pub mod Words
 pub mod OpForms
 pub mod Script
 pub mod Notes
+pub mod Canonical
 pub mod Plans
 pub mod State
 pub mod Ops

@@ -212,6 +212,7 @@ fn put_invalidate<K: Sink>(line: &mut Line<'_, K>, bank: u8, rec: u8, cleared: b
         ≡ text_of line.old
         ++ join_with_byte 32
         (codes "invalidate" ∷ decimal bank ∷ decimal rec ∷ choice_word (codes "cleared") (codes "stood") cleared ∷ []) }
+    ensures room { length (text_of line.new) ≤ length (text_of line.old) + 70 }
     ensures sink { sink_of line.new ≡ sink_of line.old }
     ensures same_sink { SameSink line.new line.old }
 {
@@ -259,6 +260,7 @@ fn put_call<K: Sink>(
 )
     requires { length (text_of line.old) + 352 ≤ 512 }
     ensures text { text_of line.new ≡ text_of line.old ++ join_with_byte 32 (call_words eid fid args.now code written.now) }
+    ensures room { length (text_of line.new) ≤ length (text_of line.old) + 352 }
     ensures sink { sink_of line.new ≡ sink_of line.old }
     ensures same_sink { SameSink line.new line.old }
 {
@@ -333,6 +335,7 @@ fn put_error<K: Sink>(line: &mut Line<'_, K>, report: &Report, logged: Option<Lo
     requires { length (text_of line.old) + 200 ≤ 512 }
     ensures text { text_of line.new
         ≡ text_of line.old ++ join_with_byte 32 (report_words report.now ++ codes "=" ∷ logged_words logged) }
+    ensures room { length (text_of line.new) ≤ length (text_of line.old) + 200 }
     ensures sink { sink_of line.new ≡ sink_of line.old }
     ensures same_sink { SameSink line.new line.old }
 {
@@ -348,6 +351,7 @@ fn put_raise<K: Sink>(line: &mut Line<'_, K>, id: u32, hart: u8, signalled: bool
         ≡ text_of line.old
         ++ join_with_byte 32
         (codes "raise" ∷ hexadecimal id ∷ decimal hart ∷ choice_word (codes "signalled") (codes "stray") signalled ∷ []) }
+    ensures room { length (text_of line.new) ≤ length (text_of line.old) + 60 }
     ensures sink { sink_of line.new ≡ sink_of line.old }
     ensures same_sink { SameSink line.new line.old }
 {
@@ -363,6 +367,7 @@ pub fn note_text<K: Sink>(line: &mut Line<'_, K>, note: &StepNote)
     requires room { length (text_of line.old) + 352 ≤ 512 }
     requires has_text { IsTrue (has_text note.now) }
     ensures text { text_of line.new ≡ text_of line.old ++ note_text note.now }
+    ensures room { length (text_of line.new) ≤ length (text_of line.old) + 352 }
     ensures sink { sink_of line.new ≡ sink_of line.old }
     ensures same_sink { SameSink line.new line.old }
 {

@@ -40,7 +40,8 @@ fn codes_of_states_and_masks(rt: HostRuntime) -> Result<(), Fail> {
     Ok(())
 }
 
-/// Reads and writes of attributes, first with words 0, 5 and 1 where memory begins. A refused write leaves each attribute.
+/// Reads and writes of attributes, first with words 0, 5 and 1 where memory begins. A refused write leaves each
+/// attribute.
 const OF_ATTRIBUTES: [Act; 26] = [
     Act::Call(0, 0, [LOCAL, 0, 10, BASE, 0], SbiCode::Success),
     Act::Word(BASE, 8),

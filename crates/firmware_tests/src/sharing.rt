@@ -1,7 +1,10 @@
 //! Several harts: an event that they share, and the events that each has of its own.
 
+ghost use Rattle.std.specs.Prelude.{◌≡◌, true};
+ghost use Rattle.sse_base.specs.Start.{are_distinct};
+
 use crate::acts::{Act, BASE, GLOBAL, SHARED, all_happen, happens, injectable};
-use sbi_sse::{EventId, Firmware, Instance, Privilege, Regs, SbiCode};
+use sbi_sse::{EventDecl, EventId, Firmware, Instance, Privilege, Regs, SbiCode};
 use std::process::Abort;
 use std::test::Fail;
 
@@ -43,8 +46,8 @@ const FROM_ELSEWHERE: [Act; 11] = [
     Act::Depth(1, 0),
 ];
 
-/// The event prefers hart 1, which is masked, so it begins on hart 0; signalled again it waits for the preferred hart, and
-/// for the handler to complete.
+/// The event prefers hart 1, which is masked, so it begins on hart 0; signalled again it waits for the preferred
+/// hart, and for the handler to complete.
 const PREFERS_ANOTHER: [Act; 17] = [
     Act::Store(BASE, 1),
     Act::Call(0, 1, [GLOBAL, 3, 1, BASE, 0], SbiCode::Success),
@@ -132,9 +135,11 @@ fn unwind(rt: &impl Abort, firmware: &mut Firmware, hart: u8) {
     happens(rt, 2, firmware, &Act::Deliver(hart, None));
 }
 
-#[test]
-fn each_of_64_instances_once(rt: HostRuntime) -> Result<(), Fail> {
-    let decls = [
+/// Each of these events as a board declares it.
+fn declared() -> [EventDecl; 8]
+    ensures { are_distinct result ≡ true }
+{
+    [
         injectable(0x0),
         injectable(0x4000),
         injectable(0x1_0000),
@@ -143,10 +148,26 @@ fn each_of_64_instances_once(rt: HostRuntime) -> Result<(), Fail> {
         injectable(0x3_4000),
         injectable(0x10_0000),
         injectable(0xffff_0000),
-    ];
-    let mut firmware = Firmware::new(rt.alloc(), 8, &decls, &[0x1000; 8])?;
+    ]
+}
+
+#[test]
+fn each_of_64_instances_once(rt: HostRuntime) -> Result<(), Fail> {
+    let mut firmware = Firmware::new(rt.alloc(), 8, &declared(), &[0x1000; 8])?;
     for hart in 0..8 {
         nest(&rt, &mut firmware, hart);
+        unwind(&rt, &mut firmware, hart);
+    }
+    Ok(())
+}
+
+#[test]
+fn each_of_256_instances_once(rt: HostRuntime) -> Result<(), Fail> {
+    let mut firmware = Firmware::new(rt.alloc(), 32, &declared(), &[0x1000; 32])?;
+    for hart in 0..32 {
+        nest(&rt, &mut firmware, hart);
+    }
+    for hart in 0..32 {
         unwind(&rt, &mut firmware, hart);
     }
     Ok(())

@@ -9,3 +9,5 @@ mod blocks;
 mod fields;
 #[cfg(test)]
 mod logging;
+#[cfg(test)]
+mod words;

@@ -16,9 +16,9 @@ abbrev IsMatched : StatusFields → Type 0
 IsMatched fields = fields.valid ≡ (fields.ce || fields.ued || fields.uec)
 
 -- valid, and a severity bit is set
-record IsSet (fields : StatusFields) : Type 0 where
-  valid : fields.valid ≡ true
-  bit : (fields.ce || fields.ued || fields.uec) ≡ true
+pub record IsSet (fields : StatusFields) : Type 0 where
+  pub valid : fields.valid ≡ true
+  pub bit : (fields.ce || fields.ued || fields.uec) ≡ true
 
 matched : (fields : StatusFields) → IsSet fields → IsMatched fields
 matched fields s = s.valid ∙ sym s.bit
@@ -61,7 +61,7 @@ lost_valid fields report lost =
       | inr not_valid ↦ absurd (true≢false (sym (wins_none fields report (top_of_invalid fields not_valid)) ∙ lost))
     ]
 
-entered_set : (fields : StatusFields) (report : Report) → IsSet (entered fields report)
+pub entered_set : (fields : StatusFields) (report : Report) → IsSet (entered fields report)
 unfolding entered filled marked
 entered_set fields report =
     elim (cases_Bool (wins fields report)) as (λ _. IsSet (entered fields report)) [

@@ -146,7 +146,7 @@ updates_counted old report new alone h u k =
       time = ap (λ r. r.time) u.rest;
     }
 
-wins_after_count : (control : ℕ) (fields : StatusFields) (report : Report)
+pub wins_after_count : (control : ℕ) (fields : StatusFields) (report : Report)
     → wins (count_after control fields report) report ≡ wins fields report
 unfolding count_after
 wins_after_count control fields report =

@@ -5,28 +5,10 @@ use Rattle.std.proofs.lemmas.Bool.{cases_Bool}
 use Rattle.std.proofs.lemmas.Bool.Decides.{nat_tests}
 use Rattle.sse_base.specs.declared.ids.Instance.{Instance}
 use Rattle.sse_base.specs.declared.ids.Instance.TheVariants.{Local, Global}
-use Rattle.sse_base.specs.Ids.{same_instance, place}
+use Rattle.sse_base.specs.Ids.{same_instance, place, may_run_on}
 use Rattle.sse_base.specs.Contexts.{Frame, Stack, bit}
-use Rattle.sbi_sse.specs.Kept.{times, ats, running, may_run_on}
-
-pub same_self : (x : Instance) → same_instance x x ≡ true
-unfolding same_instance
-same_self (Local a h) = grind (arith, nat_tests)
-same_self (Global a) = grind (arith, nat_tests)
-
-pub same_is : (x y : Instance) → same_instance x y ≡ true → x ≡ y
-unfolding same_instance
-same_is (Local a h) (Local b k) e =
-    let p : a.0 ≡ b.0 = grind (arith, nat_tests)
-    in let q : h ≡ k = grind (arith, nat_tests)
-    in let r : a ≡ b = ap (λ (n : ℕ). record { 0 = n }) p
-    in cc
-same_is (Local a h) (Global b) e = cc
-same_is (Global a) (Local b k) e = cc
-same_is (Global a) (Global b) e =
-    let p : a.0 ≡ b.0 = grind (arith, nat_tests)
-    in let r : a ≡ b = ap (λ (n : ℕ). record { 0 = n }) p
-    in cc
+use Rattle.sse_base.proofs.Instances.{same_self, same_is}
+use Rattle.sbi_sse.specs.Kept.{times, ats, running}
 
 pub times_append : (x : Instance) (xs ys : List Instance) → times x (xs ++ ys) ≡ times x xs + times x ys
 times_append x [] ys = omega arith
@@ -34,9 +16,11 @@ times_append x (y ∷ xs) ys = omega (arith, times_append x xs ys)
 
 -- an exchange of one hart's frames
 pub exchange : (x : Instance) (ss : List Stack) (h : ℕ) (d s : Stack) → h < length ss →
-    times x (running (set ss h s)) + times x (ats (get_or ss h d).frames) ≡ times x (running ss) + times x (ats s.frames)
+    times x (running (set ss h s)) + times x (ats (get_or ss h d).frames)
+    ≡ times x (running ss) + times x (ats s.frames)
 exchange x [] h d s l = absurd (omega arith)
-exchange x (r ∷ ss) zero d s l = omega (arith, times_append x (ats s.frames) (running ss), times_append x (ats r.frames) (running ss))
+exchange x (r ∷ ss) zero d s l =
+    omega (arith, times_append x (ats s.frames) (running ss), times_append x (ats r.frames) (running ss))
 exchange x (r ∷ ss) (suc h) d s l =
     omega (
       arith,
@@ -50,7 +34,8 @@ pub part_of_running : (x : Instance) (ss : List Stack) (h : ℕ) (d : Stack) →
     times x (ats (get_or ss h d).frames) ≤ times x (running ss)
 part_of_running x [] h d l = absurd (omega arith)
 part_of_running x (r ∷ ss) zero d l = omega (arith, times_append x (ats r.frames) (running ss))
-part_of_running x (r ∷ ss) (suc h) d l = omega (arith, times_append x (ats r.frames) (running ss), part_of_running x ss h d (omega arith))
+part_of_running x (r ∷ ss) (suc h) d l =
+    omega (arith, times_append x (ats r.frames) (running ss), part_of_running x ss h d (omega arith))
 
 pub ats_length : (fs : List Frame) → length (ats fs) ≡ length fs
 ats_length [] = refl
@@ -79,7 +64,8 @@ standing_placed x (y ∷ ys) l =
     ]
 
 -- two instances at one place are one
-pub same_place : (x y : Instance) (zs : List Instance) → place x zs ≡ place y zs → place y zs < length zs → same_instance y x ≡ true
+pub same_place : (x y : Instance) (zs : List Instance) → place x zs ≡ place y zs → place y zs < length zs
+    → same_instance y x ≡ true
 same_place x y [] e l = absurd (omega arith)
 same_place x y (z ∷ zs) e l =
     elim (cases_Bool (same_instance z x)) [
@@ -138,11 +124,13 @@ no_longer [] ys h = zero-le
 no_longer (x ∷ xs) ys h =
     let s : bit (same_instance x x) ≡ 1 = rw (same_self x) refl
     in let p : 0 < times x ys = omega (arith, h x)
-    in let r : length xs ≤ length (without x ys) = no_longer xs (without x ys) (λ z. omega (arith, h z, without_times x z ys p))
+    in let r : length xs ≤ length (without x ys) =
+    no_longer xs (without x ys) (λ z. omega (arith, h z, without_times x z ys p))
     in omega (arith, without_length x ys p)
 
 -- what passes a test stands among those that pass
-pub passing : (h : ℕ) (z : Instance) (ys : List Instance) → may_run_on h z ≡ true → times z ys ≤ times z (filter (may_run_on h) ys)
+pub passing : (h : ℕ) (z : Instance) (ys : List Instance) → may_run_on h z ≡ true
+    → times z ys ≤ times z (filter (may_run_on h) ys)
 passing h z [] p = omega arith
 passing h z (y ∷ ys) p =
     elim (cases_Bool (same_instance y z)) [

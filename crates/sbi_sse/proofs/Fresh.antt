@@ -4,19 +4,21 @@ use Rattle.std.specs.Prelude.{filter, ◌==◌, ◌&&◌, not}
 use Rattle.std.specs.List.{flat_map}
 use Rattle.std.proofs.lemmas.Bool.{cases_Bool, cases_lt}
 use Rattle.std.proofs.lemmas.Bool.Decides.{nat_tests, eqb_tells}
-use Rattle.std.proofs.lemmas.List.{length-replicate}
+use Rattle.std.proofs.lemmas.List.{length-replicate, length-map}
 use Rattle.std.proofs.lemmas.List.Elements.{filter-append}
 use Rattle.sse_base.specs.declared.ids.EventId.{EventId}
 use Rattle.sse_base.specs.declared.ids.Instance.{Instance}
 use Rattle.sse_base.specs.declared.ids.Instance.TheVariants.{Local, Global}
 use Rattle.sse_base.specs.declared.events.Event.{Event}
 use Rattle.sse_base.specs.declared.events.EventDecl.{EventDecl}
-use Rattle.sse_base.specs.Ids.{same_instance, place, id_of, is_global, on_harts, instances_of_event, by_rising_id, in_order}
+use Rattle.sse_base.specs.Ids.{same_instance, place, id_of, is_global, on_harts, instances_of_event, by_rising_id, in_order, may_run_on, is_meant}
 use Rattle.sse_base.specs.Events.{fresh_event, fresh_events, is_running, start_events}
 use Rattle.sse_base.specs.Contexts.{Stack, bit, fresh_stack}
 use Rattle.sse_table.proofs.Orders.{order_length, as_many_events}
 use Rattle.sse_base.specs.Start.{has_id, are_distinct}
-use Rattle.sbi_sse.specs.Kept.{times, ats, running, may_run_on, IsBoard, IsKept}
+use Rattle.sse_target.specs.Lines.{fresh_lines}
+use Rattle.sse_target.proofs.Tables.{fresh_holds}
+use Rattle.sbi_sse.specs.Kept.{times, ats, running, IsBoard, IsKept, Serves}
 use Rattle.sbi_sse.proofs.Counting.{times_append, placed_stands, standing_placed}
 
 -- One event on each hart: each hart's instance stands once.
@@ -32,19 +34,37 @@ global_apart a b h = refl
 none_beyond : (a b : EventId) (n k : ℕ) → n ≤ k → times (Local b k) (on_harts a n) ≡ 0
 none_beyond a b zero k l = refl
 none_beyond a b (suc n) k l =
-    let e : bit ((a.0 == b.0) && (n == k)) ≡ 0 = elim (cases_Bool (a.0 == b.0)) [ inl p ↦ grind (arith, nat_tests) | inr p ↦ rw p refl ]
-    in omega (arith, times_append (Local b k) (on_harts a n) (Local a n ∷ []), local_times a b n k, none_beyond a b n k (omega arith))
+    let e : bit ((a.0 == b.0) && (n == k)) ≡ 0 =
+    elim (cases_Bool (a.0 == b.0)) [ inl p ↦ grind (arith, nat_tests) | inr p ↦ rw p refl ]
+    in omega (
+      arith,
+      times_append (Local b k) (on_harts a n) (Local a n ∷ []),
+      local_times a b n k,
+      none_beyond a b n k (omega arith),
+    )
 
 one_at_most : (a b : EventId) (n k : ℕ) → times (Local b k) (on_harts a n) ≤ bit (a.0 == b.0)
 one_at_most a b zero k = omega arith
 one_at_most a b (suc n) k =
     elim (eqb_tells n k) [
       | inl e ↦
-          let p : bit ((a.0 == b.0) && (n == k)) ≤ bit (a.0 == b.0) = elim (cases_Bool (a.0 == b.0)) [ inl q ↦ rw (q, e.0) (omega arith) | inr q ↦ rw q (omega arith) ]
-          in omega (arith, times_append (Local b k) (on_harts a n) (Local a n ∷ []), local_times a b n k, none_beyond a b n k (omega arith))
+          let p : bit ((a.0 == b.0) && (n == k)) ≤ bit (a.0 == b.0) =
+          elim (cases_Bool (a.0 == b.0)) [ inl q ↦ rw (q, e.0) (omega arith) | inr q ↦ rw q (omega arith) ]
+          in omega (
+            arith,
+            times_append (Local b k) (on_harts a n) (Local a n ∷ []),
+            local_times a b n k,
+            none_beyond a b n k (omega arith),
+          )
       | inr e ↦
-          let p : bit ((a.0 == b.0) && (n == k)) ≡ 0 = elim (cases_Bool (a.0 == b.0)) [ inl q ↦ rw (q, e.0) refl | inr q ↦ rw q refl ]
-          in omega (arith, times_append (Local b k) (on_harts a n) (Local a n ∷ []), local_times a b n k, one_at_most a b n k)
+          let p : bit ((a.0 == b.0) && (n == k)) ≡ 0 =
+          elim (cases_Bool (a.0 == b.0)) [ inl q ↦ rw (q, e.0) refl | inr q ↦ rw q refl ]
+          in omega (
+            arith,
+            times_append (Local b k) (on_harts a n) (Local a n ∷ []),
+            local_times a b n k,
+            one_at_most a b n k,
+          )
     ]
 
 one_below : (a b : EventId) (n k : ℕ) → k < n → (a.0 == b.0) ≡ true → 0 < times (Local b k) (on_harts a n)
@@ -55,12 +75,21 @@ one_below a b (suc n) k l q =
           let p : bit ((a.0 == b.0) && (n == k)) ≡ 1 = rw (q, e.0) refl
           in omega (arith, times_append (Local b k) (on_harts a n) (Local a n ∷ []), local_times a b n k)
       | inr e ↦
-          omega (arith, times_append (Local b k) (on_harts a n) (Local a n ∷ []), one_below a b n k (omega (arith, e.1)) q)
+          omega (
+            arith,
+            times_append (Local b k) (on_harts a n) (Local a n ∷ []),
+            one_below a b n k (omega (arith, e.1)) q,
+          )
     ]
 
 no_global : (a b : EventId) (n : ℕ) → times (Global b) (on_harts a n) ≡ 0
 no_global a b zero = refl
-no_global a b (suc n) = omega (arith, times_append (Global b) (on_harts a n) (Local a n ∷ []), global_apart a b n, no_global a b n)
+no_global a b (suc n) = omega (
+  arith,
+  times_append (Global b) (on_harts a n) (Local a n ∷ []),
+  global_apart a b n,
+  no_global a b n,
+)
 
 -- The instances of one event.
 
@@ -81,7 +110,8 @@ local_apart : (a b : EventId) (h : ℕ) → times (Local b h) (Global a ∷ []) 
 unfolding same_instance
 local_apart a b h = refl
 
-event_whole : (n : ℕ) (a b : EventId) (h k : ℕ) → 0 < times (Local b h) (instances_of_event n a) → k < n → 0 < times (Local b k) (instances_of_event n a)
+event_whole : (n : ℕ) (a b : EventId) (h k : ℕ) → 0 < times (Local b h) (instances_of_event n a) → k < n
+    → 0 < times (Local b k) (instances_of_event n a)
 event_whole n a b h k p l =
     elim (cases_Bool (is_global a.0)) [
       | inl g ↦
@@ -141,15 +171,26 @@ how_many id (d ∷ ds) = bit (d.id.0 == id) + how_many id ds
 
 all_times : (n : ℕ) (x : Instance) (ds : List EventDecl) → times x (all n ds) ≤ how_many (id_of x).0 ds
 all_times n x [] = omega arith
-all_times n x (d ∷ ds) = omega (arith, times_append x (instances_of_event n d.id) (all n ds), event_once n d.id x, all_times n x ds)
+all_times n x (d ∷ ds) = omega (
+  arith,
+  times_append x (instances_of_event n d.id) (all n ds),
+  event_once n d.id x,
+  all_times n x ds,
+)
 
-all_whole : (n : ℕ) (b : EventId) (h k : ℕ) (ds : List EventDecl) → 0 < times (Local b h) (all n ds) → k < n → 0 < times (Local b k) (all n ds)
+all_whole : (n : ℕ) (b : EventId) (h k : ℕ) (ds : List EventDecl) → 0 < times (Local b h) (all n ds) → k < n
+    → 0 < times (Local b k) (all n ds)
 all_whole n b h k [] p l = absurd (omega arith)
 all_whole n b h k (d ∷ ds) p l =
     elim (cases_lt 0 (times (Local b h) (instances_of_event n d.id))) [
-      | inl q ↦ omega (arith, times_append (Local b k) (instances_of_event n d.id) (all n ds), event_whole n d.id b h k q l)
+      | inl q ↦ omega (
+        arith,
+        times_append (Local b k) (instances_of_event n d.id) (all n ds),
+        event_whole n d.id b h k q l,
+      )
       | inr q ↦
-          let r : 0 < times (Local b h) (all n ds) = omega (arith, times_append (Local b h) (instances_of_event n d.id) (all n ds))
+          let r : 0 < times (Local b h) (all n ds) =
+          omega (arith, times_append (Local b h) (instances_of_event n d.id) (all n ds))
           in omega (arith, times_append (Local b k) (instances_of_event n d.id) (all n ds), all_whole n b h k ds r l)
     ]
 
@@ -165,7 +206,8 @@ all_few n h (d ∷ ds) =
     )
 
 -- each id is declared once, in whatever order
-order_one : (id : ℕ) (d : EventDecl) (ds : List EventDecl) → how_many id (by_rising_id d ds) ≡ bit (d.id.0 == id) + how_many id ds
+order_one : (id : ℕ) (d : EventDecl) (ds : List EventDecl) → how_many id (by_rising_id d ds)
+    ≡ bit (d.id.0 == id) + how_many id ds
 order_one id d [] = refl
 order_one id d (e ∷ es) = grind (arith, order_one id d es)
 
@@ -207,7 +249,8 @@ fresh_board n ds l e =
       once = λ x. omega (arith, all_times n x (in_order ds), order_many (id_of x).0 ds, declared_once (id_of x).0 ds e);
       few = λ h. omega (arith, all_few n h (in_order ds), order_length ds);
       whole = λ id h k p q.
-          standing_placed (Local id k) (all n (in_order ds)) (all_whole n id h k (in_order ds) (placed_stands (Local id h) (all n (in_order ds)) p) q);
+          standing_placed (Local id k) (all n (in_order ds))
+          (all_whole n id h k (in_order ds) (placed_stands (Local id h) (all n (in_order ds)) p) q);
     }
 
 -- Nothing runs.
@@ -224,9 +267,12 @@ idle_fresh : (b : Bool) (is : List Instance) → AreIdle (fresh_events b is)
 idle_fresh b [] = tt
 idle_fresh b (i ∷ is) = (refl, idle_fresh b is)
 
-idle_all : (n : ℕ) (ds : List EventDecl) → AreIdle (flat_map (λ d. fresh_events d.inject (instances_of_event n d.id)) ds)
+idle_all : (n : ℕ) (ds : List EventDecl)
+    → AreIdle (flat_map (λ d. fresh_events d.inject (instances_of_event n d.id)) ds)
 idle_all n [] = tt
-idle_all n (d ∷ ds) = idle_append (fresh_events d.inject (instances_of_event n d.id)) _ (idle_fresh d.inject (instances_of_event n d.id)) (idle_all n ds)
+idle_all n (d ∷ ds) =
+    idle_append (fresh_events d.inject (instances_of_event n d.id)) _
+    (idle_fresh d.inject (instances_of_event n d.id)) (idle_all n ds)
 
 idle_at : (es : List Event) (i : ℕ) → AreIdle es → is_running (get_or es i (fresh_event false 0)).state ≡ false
 idle_at [] i p = refl
@@ -237,7 +283,8 @@ none_run : (x : Instance) (starts : List ℕ) → times x (running (map fresh_st
 none_run x [] = refl
 none_run x (pc ∷ starts) = none_run x starts
 
-no_frames : (x : Instance) (starts : List ℕ) (h : ℕ) (d : Stack) → h < length starts → times x (ats (get_or (map fresh_stack starts) h d).frames) ≡ 0
+no_frames : (x : Instance) (starts : List ℕ) (h : ℕ) (d : Stack) → h < length starts
+    → times x (ats (get_or (map fresh_stack starts) h d).frames) ≡ 0
 no_frames x [] h d l = absurd (omega arith)
 no_frames x (pc ∷ starts) zero d l = refl
 no_frames x (pc ∷ starts) (suc h) d l = no_frames x starts h d (omega arith)
@@ -246,7 +293,8 @@ as_many_stacks : (starts : List ℕ) → length (map fresh_stack starts) ≡ len
 as_many_stacks [] = refl
 as_many_stacks (pc ∷ starts) = ap suc (as_many_stacks starts)
 
-pub fresh_kept : (n : ℕ) (ds : List EventDecl) (starts : List ℕ) → length ds ≤ 8 → are_distinct ds ≡ true → length starts ≡ n →
+pub fresh_kept : (n : ℕ) (ds : List EventDecl) (starts : List ℕ) → length ds ≤ 8 → are_distinct ds ≡ true
+    → length starts ≡ n →
     IsKept (start_events n ds) (replicate n true) (map fresh_stack starts)
 fresh_kept n ds starts l e m =
     record {
@@ -254,8 +302,72 @@ fresh_kept n ds starts l e m =
       each = as_many_events n (in_order ds);
       masked = length-replicate n true;
       harts = as_many_stacks starts ∙ m;
-      framed = λ x. none_run x starts ∙ ap bit (sym (idle_at _ (place x (start_events n ds).instances) (idle_all n (in_order ds))));
+      framed = λ x. none_run x starts
+          ∙ ap bit (sym (idle_at _ (place x (start_events n ds).instances) (idle_all n (in_order ds))));
       own = λ h d x p q.
           (let r : h < length starts = omega (arith, as_many_stacks starts)
           in absurd (omega (arith, no_frames x starts h d r)));
+    }
+
+-- What waits: nothing. And on each hart an event means one instance.
+
+meant_less : (h : ℕ) (id : EventId) (xs : List Instance)
+    → length (filter (is_meant h id) xs) ≤ length (filter (may_run_on h) xs)
+meant_less h id [] = omega arith
+meant_less h id (x ∷ xs) =
+    elim (cases_Bool (may_run_on h x)) [
+      | inl r ↦ elim (cases_Bool ((id_of x).0 == id.0)) [
+        | inl e ↦ rw (r, e) (omega (arith, meant_less h id xs))
+        | inr e ↦ rw (r, e) (omega (arith, meant_less h id xs))
+      ]
+      | inr r ↦ rw r (meant_less h id xs)
+    ]
+
+other_alone : (a id : EventId) (h k : ℕ) → (a.0 == id.0) ≡ false → length (filter (is_meant h id) (Local a k ∷ [])) ≡ 0
+other_alone a id h k e = elim (cases_Bool (k == h)) [ inl q ↦ rw (q, e) refl | inr q ↦ rw q refl ]
+
+other_harts : (a id : EventId) (h n : ℕ) → (a.0 == id.0) ≡ false → length (filter (is_meant h id) (on_harts a n)) ≡ 0
+other_harts a id h zero e = refl
+other_harts a id h (suc n) e =
+    omega (
+      arith,
+      ap length (filter-append (is_meant h id) (on_harts a n) (Local a n ∷ [])),
+      length-append (filter (is_meant h id) (on_harts a n)) (filter (is_meant h id) (Local a n ∷ [])),
+      other_alone a id h n e,
+      other_harts a id h n e,
+    )
+
+event_meant : (n : ℕ) (a id : EventId) (h : ℕ)
+    → length (filter (is_meant h id) (instances_of_event n a)) ≤ bit (a.0 == id.0)
+event_meant n a id h =
+    elim (cases_Bool (a.0 == id.0)) [
+      | inl e ↦ rw e (omega (arith, meant_less h id (instances_of_event n a), event_few n a h))
+      | inr e ↦ elim (cases_Bool (is_global a.0)) [
+        | inl g ↦ rw (g, e) (omega arith)
+        | inr g ↦ rw (g, e) (omega (arith, other_harts a id h n e))
+      ]
+    ]
+
+all_meant : (n h : ℕ) (id : EventId) (ds : List EventDecl)
+    → length (filter (is_meant h id) (all n ds)) ≤ how_many id.0 ds
+all_meant n h id [] = omega arith
+all_meant n h id (d ∷ ds) =
+    omega (
+      arith,
+      ap length (filter-append (is_meant h id) (instances_of_event n d.id) (all n ds)),
+      length-append (filter (is_meant h id) (instances_of_event n d.id)) (filter (is_meant h id) (all n ds)),
+      event_meant n d.id id h,
+      all_meant n h id ds,
+    )
+
+pub fresh_serves : (n : ℕ) (ds : List EventDecl) → length ds ≤ 8 → are_distinct ds ≡ true
+    → Serves (fresh_lines n) (start_events n ds)
+fresh_serves n ds l e =
+    record {
+      holds = fresh_holds n (start_events n ds) (all n (in_order ds)) refl;
+      fits = record {
+        alone = λ h id. omega (arith, all_meant n h id (in_order ds), order_many id.0 ds, declared_once id.0 ds e);
+        few = λ h. omega (arith, all_few n h (in_order ds), order_length ds);
+      };
+      marks = length-map (all n (in_order ds)) (λ (at : Instance). false);
     }

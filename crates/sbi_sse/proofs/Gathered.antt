@@ -13,12 +13,14 @@ next_read a (suc n) m at ss t =
     in rw e (ap (λ ws. read a at ss t ∷ ws) (next_read (a + 1) n m at ss t))
 
 pub one_more_read : (a i : ℕ) (at : Instance) (ss : List Stack) (t : Events) → i < 10 →
-    set (reads a i at ss t ++ replicate (10 - i) 0) i (read (a + i) at ss t) ≡ reads a (i + 1) at ss t ++ replicate (10 - (i + 1)) 0
+    set (reads a i at ss t ++ replicate (10 - i) 0) i (read (a + i) at ss t) ≡ reads a (i + 1) at ss t
+    ++ replicate (10 - (i + 1)) 0
 one_more_read a i at ss t h =
     let e : 10 - i ≡ suc (10 - (i + 1)) = omega arith
     in let f : i + 1 ≡ suc i = omega arith
     in rw (e, f) (next_read a i (10 - suc i) at ss t)
 
-pub reads_taken : (a n : ℕ) (at : Instance) (ss : List Stack) (t : Events) (ws : List ℕ) → take n (reads a n at ss t ++ ws) ≡ reads a n at ss t
+pub reads_taken : (a n : ℕ) (at : Instance) (ss : List Stack) (t : Events) (ws : List ℕ)
+    → take n (reads a n at ss t ++ ws) ≡ reads a n at ss t
 reads_taken a zero at ss t ws = refl
 reads_taken a (suc n) at ss t ws = ap (λ vs. read a at ss t ∷ vs) (reads_taken (a + 1) n at ss t ws)

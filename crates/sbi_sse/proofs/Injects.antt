@@ -43,7 +43,8 @@ elsewhere_named : (g : Bool) (id h k n : ℕ) (to : Instance) →
 elsewhere_named true id h k n to e = sym (some_is _ to e)
 elsewhere_named false id h k n to e = sym (if_some (nat_lt k n) _ to e).1
 
-pub injected_to : (id h k n : ℕ) (t : Events) (at to : Instance) → find_instance id h t ≡ Ok at → elsewhere at k n ≡ Some to → to ≡ instance_of id k
+pub injected_to : (id h k n : ℕ) (t : Events) (at to : Instance) → find_instance id h t ≡ Ok at
+    → elsewhere at k n ≡ Some to → to ≡ instance_of id k
 injected_to id h k n t at to f e =
     elsewhere_named (is_global id) id h k n to (ap (λ (x : Instance). elsewhere x k n) (found_named id h t at f) ∙ e)
 
@@ -56,15 +57,19 @@ hart_missing : (at : Instance) (k n : ℕ) → elsewhere at k n ≡ None → (is
 hart_missing (Local id h) k n e = rw (if_none (nat_lt k n) (Local id k) e) refl
 hart_missing (Global id) k n e = cc
 
-pub injected_none : (id k n : ℕ) (t : Events) (at : Instance) → (event at t).inject ≡ true → n ≡ t.harts → elsewhere at k n ≡ None →
+pub injected_none : (id k n : ℕ) (t : Events) (at : Instance) → (event at t).inject ≡ true → n ≡ t.harts
+    → elsewhere at k n ≡ None →
     inject id k at t ≡ refused InvalidParam t
 injected_none id k n t at i m e =
-    let p : (is_local at && not (nat_lt k t.harts)) ≡ true = hart_missing at k t.harts (ap (λ (j : ℕ). elsewhere at k j) (sym m) ∙ e)
+    let p : (is_local at && not (nat_lt k t.harts)) ≡ true =
+    hart_missing at k t.harts (ap (λ (j : ℕ). elsewhere at k j) (sym m) ∙ e)
     in rw (i, p) refl
 
-pub injected_some : (id h k n : ℕ) (t : Events) (at to : Instance) → find_instance id h t ≡ Ok at → (event at t).inject ≡ true → n ≡ t.harts →
+pub injected_some : (id h k n : ℕ) (t : Events) (at to : Instance) → find_instance id h t ≡ Ok at
+    → (event at t).inject ≡ true → n ≡ t.harts →
     elsewhere at k n ≡ Some to → inject id k at t ≡ accepted (signal to t)
 injected_some id h k n t at to f i m e =
-    let p : (is_local at && not (nat_lt k t.harts)) ≡ false = hart_there at to k t.harts (ap (λ (j : ℕ). elsewhere at k j) (sym m) ∙ e)
+    let p : (is_local at && not (nat_lt k t.harts)) ≡ false =
+    hart_there at to k t.harts (ap (λ (j : ℕ). elsewhere at k j) (sym m) ∙ e)
     in let q : to ≡ instance_of id k = injected_to id h k n t at to f e
     in rw (i, p) (ap (λ (x : Instance). accepted (signal x t)) (sym q))

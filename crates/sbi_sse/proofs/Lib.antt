@@ -6,3 +6,4 @@ pub mod Chosen
 pub mod Fresh
 pub mod Injects
 pub mod Gathered
+pub mod Queues

@@ -5,7 +5,8 @@ use Rattle.sse_base.specs.Machine.{Machine, placed}
 use Rattle.sse_base.specs.Calls.{Answer}
 use Rattle.sbi_sse.specs.declared.parts.CallNote.{CallNote}
 
--- The note and the machine are those of the book's answer. A refused call leaves the machine, and none changes the board.
+-- The note and the machine are those of the book's answer. A refused call leaves the machine, and none changes the
+-- board.
 pub record Answers (hart : ℕ) (old new : Machine) (note : CallNote) (answer : Answer) : Type 0 where
   pub code : note.reply.error ≡ answer.code
   pub value : note.reply.value ≡ 0

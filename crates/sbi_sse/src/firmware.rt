@@ -12,6 +12,7 @@ ghost use Rattle.sse_base.specs.Choice.{next_for, top_urgency};
 ghost use Rattle.sse_base.specs.Calls.{call, delivered};
 ghost use Rattle.hart_ctx.specs.Registers.{regs_of, with_regs};
 ghost use Rattle.hart_ctx.specs.Running.{running_in};
+ghost use Rattle.sse_target.specs.Lines.{Holds};
 ghost use Rattle.std.specs.Borrow.{sem};
 ghost use Rattle.sbi_sse.specs.Lending.{LendsMemory};
 ghost use Rattle.sse_base.specs.Start.{are_distinct, start_machine};
@@ -19,16 +20,17 @@ ghost use Rattle.sse_base.specs.Start.{are_distinct, start_machine};
 use crate::parts::{CallNote, note, stacks};
 use hart_ctx::{Contexts, Memory, Regs, Saved};
 use ras_io::NoMemory;
-use sse_base::{EventDecl, EventId, Function, Instance, SbiCode};
+use sse_base::{EventDecl, EventId, Function, Instance, MAX_EVENTS, MAX_HARTS, SbiCode};
 use sse_table::Table;
-use sse_target::Targets;
+use sse_target::{Looks, Targets};
 use std::alloc::Global;
 use std::marker::Model;
 
 /// The extension id of supervisor software events.
 const EXTENSION: u64 = 0x53_5345;
 
-/// The firmware of a board: its events, which harts are masked, what each hart runs, and memory.
+/// The firmware of a board: its events, which harts are masked, what waits for each hart and what it runs, and
+/// memory.
 #[derive(Drop)]
 pub struct Firmware {
     table: Table,
@@ -42,11 +44,16 @@ impl Model for Firmware {
 
     ghost Value = { Machine };
 
-    ghost view = { λ f. record { events = f.table; masks = f.targets; stacks = f.stacks.items; memory = f.memory } };
+    ghost view = { λ f. record {
+      events = f.table;
+      masks = f.targets.masks;
+      stacks = f.stacks.items;
+      memory = f.memory;
+    } };
 
-    ghost use Rattle.sbi_sse.specs.Kept.{IsKept};
+    ghost use Rattle.sbi_sse.specs.Kept.{Stands};
 
-    ghost invariant = { λ f. IsKept f.table f.targets f.stacks.items };
+    ghost invariant = { λ f. Stands f.table f.targets f.stacks.items };
 }
 
 impl Firmware {
@@ -58,8 +65,8 @@ impl Firmware {
         events: &[EventDecl],
         starts: &[u64],
     ) -> Result<Firmware, NoMemory>
-        requires harts { harts ≤ 8 }
-        requires events { length events.now ≤ 8 }
+        requires harts { harts ≤ MAX_HARTS }
+        requires events { length events.now ≤ MAX_EVENTS }
         requires distinct { are_distinct events.now ≡ true }
         requires starts { length starts.now ≡ harts }
         ensures { IfOk result (λ f. f ≡ start_machine harts events.now starts.now) }
@@ -119,9 +126,10 @@ impl Firmware {
         &self.table
     }
 
-    /// Which harts are masked.
+    /// Which harts are masked, and what waits for each.
     pub fn targets(&self) -> &Targets
-        ensures { result.now ≡ self.now.masks }
+        ensures masks { result.now.masks ≡ self.now.masks }
+        ensures holds { Holds result.now self.now.events }
     {
         &self.targets
     }
@@ -145,7 +153,10 @@ impl Firmware {
     /// 8 or is outside memory; then nothing changes.
     pub fn store(&mut self, addr: u64, value: u64) -> Option<()>
         ensures stored { is_some result ≡ is_word addr }
-        ensures next { self.new ≡ record self.old { memory = unwrap_or (store self.old.memory addr value) self.old.memory } }
+        ensures next { self.new ≡ record self.old {
+          memory =
+              unwrap_or (store self.old.memory addr value) self.old.memory;
+        } }
     {
         self.memory.store(addr, value)
     }
@@ -157,13 +168,17 @@ impl Firmware {
         ensures { self.new ≡ record self.old { events = signal at self.old.events } }
     {
         self.table.signal(at);
+        self.targets.on_change(&self.table, at);
     }
 
     /// Makes these the registers of a hart: what is live, and the triple that the running code sees in
     /// `sepc`, `spp` and `spie`. All else stays.
     pub fn set_regs(&mut self, hart: u8, regs: &Regs)
         requires { hart < self.old.events.harts }
-        ensures { self.new ≡ record self.old { stacks = slice_set self.old.stacks hart (with_regs regs.now (stack_of hart self.old)) } }
+        ensures { self.new ≡ record self.old {
+          stacks =
+              slice_set self.old.stacks hart (with_regs regs.now (stack_of hart self.old));
+        } }
     {
         let stack = &mut self.stacks[hart as usize];
         stack.set_regs(regs);
@@ -186,18 +201,21 @@ impl Firmware {
     pub fn deliver(&mut self, hart: u8) -> Option<Instance>
         requires { hart < self.old.events.harts }
         ensures which { result ≡ next_for hart (reach hart self.old) }
-        ensures next { MatchOption result (self.new ≡ self.old) (λ at. self.new ≡ placed hart (delivered hart at (reach hart self.old)) self.old) }
+        ensures next { MatchOption result (self.new ≡ self.old) (λ at. self.new
+            ≡ placed hart (delivered hart at (reach hart self.old)) self.old) }
         ensures harts { self.new.events.harts ≡ self.old.events.harts }
         ensures instances { self.new.events.instances ≡ self.old.events.instances }
     {
         let top = self.top(hart);
-        let at = match self.targets.chosen(hart, top, &self.table) {
+        let mut looks = Looks { count: 0 };
+        let at = match self.targets.chosen(hart, top, &mut looks) {
             Some(at) => at,
             None => return None,
         };
         let entry = self.table.entry(at);
         let arg = self.table.arg(at);
         self.table.set_running(at);
+        self.targets.on_change(&self.table, at);
         let stack = &mut self.stacks[hart as usize];
         stack.deliver(at, entry, arg, hart);
         Some(at)
@@ -212,7 +230,8 @@ impl Firmware {
         ensures code { result.reply.error ≡ (call hart eid fid args self.old.stacks (reach hart self.old)).code }
         ensures value { result.reply.value ≡ 0 }
         ensures written { result.written ≡ (call hart eid fid args self.old.stacks (reach hart self.old)).written }
-        ensures next { self.new ≡ placed hart (call hart eid fid args self.old.stacks (reach hart self.old)).reach self.old }
+        ensures next { self.new ≡ placed hart (call hart eid fid args self.old.stacks (reach hart self.old)).reach
+            self.old }
         ensures refused { is_success result.reply.error ≡ false → self.new ≡ self.old }
         ensures harts { self.new.events.harts ≡ self.old.events.harts }
         ensures instances { self.new.events.instances ≡ self.old.events.instances }
@@ -238,7 +257,10 @@ impl Firmware {
     /// Goes on with a hart at another place; all else stays.
     pub fn set_pc(&mut self, hart: u8, pc: u64)
         requires { hart < self.old.events.harts }
-        ensures { self.new ≡ record self.old { stacks = slice_set self.old.stacks hart (with_pc pc (stack_of hart self.old)) } }
+        ensures { self.new ≡ record self.old {
+          stacks =
+              slice_set self.old.stacks hart (with_pc pc (stack_of hart self.old));
+        } }
     {
         let stack = &mut self.stacks[hart as usize];
         stack.set_pc(pc);

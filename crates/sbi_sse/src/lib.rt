@@ -9,4 +9,4 @@ pub use hart_ctx::{Contexts, Memory, Privilege, Regs, Saved};
 pub use parts::CallNote;
 pub use sse_base::{EventDecl, EventId, Instance, Reply, SbiCode};
 pub use sse_table::Table;
-pub use sse_target::Targets;
+pub use sse_target::{Looks, Targets};

@@ -44,7 +44,8 @@ pub fn stacks(alloc: Global, starts: &[u64]) -> Result<Vec<Contexts>, AllocError
 /// parameter, and one past the last attribute a bad range; where it has no words in memory the address is
 /// invalid (the order is this project's own).
 pub fn find_range(args: [u64; 5]) -> Result<AttrRange, SbiCode>
-    ensures range { result ≡ find_range (argument_at args 1) (argument_at args 2) (argument_at args 3) (argument_at args 4) }
+    ensures range { result
+        ≡ find_range (argument_at args 1) (argument_at args 2) (argument_at args 3) (argument_at args 4) }
     ensures short { IfOk result (λ r. r.base + r.count ≤ 10) }
     ensures words { IfOk result (λ r. are_words (argument_at args 3) r.count ≡ true) }
 {

@@ -1,4 +1,5 @@
--- Worked examples of the event book: each is computed from its definitions.
+-- What is so of instances, and worked examples of the event book: each is computed from its definitions.
+pub mod Instances
 pub mod Played
 mod WorkedCalls
 mod WorkedContexts

@@ -2,7 +2,7 @@
 -- SBI 3.0, "Supervisor Software Events": the table of event ids and the meaning of bits 14 and 15.
 -- That an id outside the table is the platform's or reserved by bit 14 alone is this project's rule, and so is the
 -- order of instances.
-use Rattle.std.specs.Prelude.{ℕ, zero, suc, ◌/◌, ◌%◌, ◌^◌, ◌==◌, ◌&&◌, nat_lt, Bool, true, false, if◌then◌else◌, List, [], ◌∷◌, ◌++◌}
+use Rattle.std.specs.Prelude.{ℕ, zero, suc, ◌/◌, ◌%◌, ◌^◌, ◌==◌, ◌&&◌, ◌≤◌, nat_lt, Bool, true, false, if◌then◌else◌, List, [], ◌∷◌, ◌++◌, length, filter}
 use Rattle.std.specs.List.{list_any}
 use Rattle.sse_base.specs.declared.ids.EventId.{EventId}
 use Rattle.sse_base.specs.declared.ids.EventClass.{EventClass}
@@ -51,6 +51,20 @@ same_instance (Global a) (Global b) = a.0 == b.0
 abbrev pub place : Instance → List Instance → ℕ
 place at [] = 0
 place at (x ∷ xs) = if same_instance x at then 0 else suc (place at xs)
+
+-- a local instance may run on its own hart alone
+abbrev pub may_run_on : ℕ → Instance → Bool
+may_run_on h (Local id k) = k == h
+may_run_on h (Global id) = true
+
+-- an instance that may run on a hart, and is of this event
+abbrev pub is_meant : ℕ → EventId → Instance → Bool
+is_meant h id x = may_run_on h x && ((id_of x).0 == id.0)
+
+-- on each hart an event means at most one instance, and at most 8 instances may run
+pub record FitsHarts (instances : List Instance) : Type 0 where
+  pub alone : (h : ℕ) (id : EventId) → length (filter (is_meant h id) instances) ≤ 1
+  pub few : (h : ℕ) → length (filter (may_run_on h) instances) ≤ 8
 
 -- the events of a board by rising id
 abbrev pub by_rising_id : EventDecl → List EventDecl → List EventDecl

@@ -9,6 +9,7 @@ mod contexts;
 mod events;
 mod functions;
 mod ids;
+mod limits;
 
 pub use arrows::{Move, State, next_state};
 pub use attributes::{AttrRange, RangeFault, attr, attr_range, word_for};
@@ -17,3 +18,4 @@ pub use contexts::Privilege;
 pub use events::{Event, EventDecl, Slot};
 pub use functions::Function;
 pub use ids::{EventClass, EventId, Instance};
+pub use limits::{MAX_EVENTS, MAX_HARTS, MAX_INSTANCES};

@@ -6,14 +6,16 @@ use Rattle.std.proofs.lemmas.Bool.Decides.{nat_tests}
 use Rattle.sse_base.specs.Calls.{some_attribute, some_word, word_for, is_refused_value}
 
 pub one_more_attribute : (test : ℕ → Bool) (base count i : ℕ) → i < count →
-    some_attribute test (base + i) (count - i) ≡ (test (base + i) || some_attribute test (base + (i + 1)) (count - (i + 1)))
+    some_attribute test (base + i) (count - i)
+    ≡ (test (base + i) || some_attribute test (base + (i + 1)) (count - (i + 1)))
 one_more_attribute test base count i h =
     let e : count - i ≡ suc (count - (i + 1)) = omega arith
     in let f : base + (i + 1) ≡ base + i + 1 = omega arith
     in rw (e, f) refl
 
 pub one_more_word : (test : ℕ → ℕ → Bool) (base i : ℕ) (words : List ℕ) → i < length words →
-    some_word test (base + i) (drop i words) ≡ (test (base + i) (get_or words i 0) || some_word test (base + (i + 1)) (drop (i + 1) words))
+    some_word test (base + i) (drop i words)
+    ≡ (test (base + i) (get_or words i 0) || some_word test (base + (i + 1)) (drop (i + 1) words))
 one_more_word test base i words h =
     let e : drop i words ≡ get_or words i 0 ∷ drop (suc i) words = drop-cons words i 0 h
     in let s : i + 1 ≡ suc i = omega arith
@@ -53,7 +55,8 @@ word_cases test attr base words old p =
       ]
     ]
 
-pub priority_fits : (harts base : ℕ) (words : List ℕ) (old : ℕ) → some_word (is_refused_value harts) base words ≡ false →
+pub priority_fits : (harts base : ℕ) (words : List ℕ) (old : ℕ) → some_word (is_refused_value harts) base words
+    ≡ false →
     old < 2 ^ 32 → word_for 1 base words old < 2 ^ 32
 unfolding is_refused_value
 priority_fits harts base words old p h =
@@ -62,7 +65,8 @@ priority_fits harts base words old p h =
       | inr e ↦ grind (arith, nat_tests, e)
     ]
 
-pub preferred_fits : (harts base : ℕ) (words : List ℕ) (old : ℕ) → some_word (is_refused_value harts) base words ≡ false →
+pub preferred_fits : (harts base : ℕ) (words : List ℕ) (old : ℕ) → some_word (is_refused_value harts) base words
+    ≡ false →
     harts < 2 ^ 8 → old < 2 ^ 8 → word_for 3 base words old < 2 ^ 8
 unfolding is_refused_value
 preferred_fits harts base words old p k h =

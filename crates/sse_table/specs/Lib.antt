@@ -1,2 +1,3 @@
 -- What the code of the table does.
 pub mod Start
+pub mod Bits

@@ -2,9 +2,11 @@
 #![tactic(auto)]
 
 mod instances;
+mod pending;
 mod start;
 mod table;
 mod writes;
 
+pub use pending::Pending;
 pub use sse_base::{AttrRange, Event, EventDecl, Slot};
 pub use table::Table;

@@ -3,16 +3,18 @@
 ghost use Rattle.std.specs.Prelude.{◌≡◌, ◌<◌, ◌≤◌, ◌+◌, length, slice_get, IfOk, Some, true, false, [], ◌∷◌, option_map, unwrap_or};
 ghost use Rattle.sse_base.specs.Arrows.{arrow};
 ghost use Rattle.sse_base.specs.Codes.{is_success};
+ghost use Rattle.sse_base.specs.Ids.{place};
 ghost use Rattle.sse_base.specs.Events.{IsOnBoard, change, event, moved, start_events, slots, signal, set_running, set_completed, is_enabled, is_running};
 ghost use Rattle.sse_base.specs.Calls.{find_instance, take_next, with_handler, register, unregister, enable, disable, attribute, check_write, some_word, is_refused_value, with_attributes};
 
 use crate::instances::{instance_of, place};
+use crate::pending::Pending;
 use crate::start;
 use crate::writes::{some_never_written, some_refused_value, some_shut};
 use ras_io::NoMemory;
 use sse_base::{
-    AttrRange, Event, EventClass, EventDecl, EventId, Instance, Move, SbiCode, Slot, State, attr,
-    next_state, word_for,
+    AttrRange, Event, EventClass, EventDecl, EventId, Instance, MAX_EVENTS, MAX_HARTS,
+    MAX_INSTANCES, Move, SbiCode, Slot, State, attr, next_state, word_for,
 };
 use std::alloc::{AllocError, Global};
 use std::marker::Model;
@@ -23,21 +25,27 @@ pub struct Table {
     harts: u8,
     instances: Vec<Instance>,
     each: Vec<Event>,
-    marks: Vec<bool>,
+    marks: Pending,
 }
 
 impl Model for Table {
     ghost use Rattle.std.specs.Prelude.{◌≡◌, ◌≤◌, length};
     ghost use Rattle.sse_base.specs.Events.{Events};
+    ghost use Rattle.sse_base.specs.declared.limits.TheConstants.{MAX_INSTANCES};
 
     ghost Value = { Events };
 
-    ghost view = { λ t. record { harts = t.harts; instances = t.instances.items; each = t.each.items; marks = t.marks.items } };
+    ghost view = { λ t. record {
+      harts = t.harts;
+      instances = t.instances.items;
+      each = t.each.items;
+      marks = t.marks;
+    } };
 
     ghost invariant = { λ t.
         (length t.each.items ≡ length t.instances.items)
-        × (length t.marks.items ≡ length t.instances.items)
-        × (length t.instances.items ≤ 64) };
+        × (length t.marks ≡ length t.instances.items)
+        × (length t.instances.items ≤ MAX_INSTANCES) };
 }
 
 /// An event with where its handler begins and its argument.
@@ -59,16 +67,16 @@ fn gone(state: State, mv: Move) -> State
 }
 
 /// The table at the start of a board.
-#[tactic(auto, using(crate::proofs::Orders::few_instances, crate::proofs::Orders::as_many_events, crate::proofs::Orders::order_length))]
+#[tactic(auto, using(crate::proofs::Orders::few_instances, crate::proofs::Orders::as_many_events, crate::proofs::Orders::order_length, crate::proofs::Orders::no_marks))]
 fn made(alloc: Global, harts: u8, events: &[EventDecl]) -> Result<Table, AllocError>
-    requires harts { harts ≤ 8 }
-    requires events { length events.now ≤ 8 }
+    requires harts { harts ≤ MAX_HARTS }
+    requires events { length events.now ≤ MAX_EVENTS }
     ensures { IfOk result (λ t. t ≡ start_events harts events.now) }
 {
     let ordered = start::in_order(alloc, events)?;
     let instances = start::instances(alloc, harts, &ordered)?;
     let each = start::events(alloc, harts, &ordered)?;
-    let marks = start::marks(alloc, &instances)?;
+    let marks = Pending::new(instances.len() as u16);
     Ok(Table {
         harts,
         instances,
@@ -81,8 +89,8 @@ impl Table {
     /// The events of a board of so many harts at its start, where nobody has used any. `NoMemory` comes
     /// where no room was found for them.
     pub fn new(alloc: Global, harts: u8, events: &[EventDecl]) -> Result<Table, NoMemory>
-        requires harts { harts ≤ 8 }
-        requires events { length events.now ≤ 8 }
+        requires harts { harts ≤ MAX_HARTS }
+        requires events { length events.now ≤ MAX_EVENTS }
         ensures { IfOk result (λ t. t ≡ start_events harts events.now) }
     {
         match made(alloc, harts, events) {
@@ -127,9 +135,8 @@ impl Table {
         ensures events { result ≡ length self.now.each }
         ensures marks { result ≡ length self.now.marks }
         ensures slots { result ≡ length (slots self.now) }
-        ensures at_most { result ≤ 64 }
+        ensures at_most { result ≤ MAX_INSTANCES }
     {
-        let _ = self.marks.len();
         self.instances.len() as u16
     }
 
@@ -151,7 +158,23 @@ impl Table {
         Slot {
             at: self.instances[i],
             event: self.each[i],
-            pending: self.marks[i],
+            pending: self.marks.test(index),
+        }
+    }
+
+    /// An instance with its event and whether it is pending.
+    #[tactic(auto, using(crate::proofs::Slots::slot_at, sse_base::proofs::Instances::at_its_place))]
+    pub fn slot_of(&self, at: Instance) -> Slot
+        requires { IsOnBoard at self.now }
+        ensures slot { slice_get (slots self.now) (place at self.now.instances) ≡ Some result }
+        ensures at { result.at ≡ at }
+        ensures event { result.event ≡ event at self.now }
+    {
+        let i = place(&self.instances, at);
+        Slot {
+            at,
+            event: self.each[i],
+            pending: self.marks.test(i as u16),
         }
     }
 
@@ -247,7 +270,7 @@ impl Table {
     {
         let i = place(&self.instances, at);
         self.each[i].state = gone(self.each[i].state, Move::Deliver);
-        self.marks[i] = false;
+        self.marks.clear(i as u16);
     }
 
     /// An instance whose handler is done is enabled again, or registered where it is oneshot.
@@ -270,8 +293,7 @@ impl Table {
         requires { IsOnBoard at self.old }
         ensures { self.new ≡ signal at self.old }
     {
-        let i = place(&self.instances, at);
-        self.marks[i] = true;
+        self.marks.set(place(&self.instances, at) as u16);
     }
 
     /// Whether software may inject an instance.
@@ -317,7 +339,9 @@ impl Table {
         let event = self.each[i];
         match attr {
             attr::STATUS => {
-                event.state.number() + 4 * self.marks[i] as u64 + 8 * event.inject as u64
+                event.state.number()
+                    + 4 * self.marks.test(i as u16) as u64
+                    + 8 * event.inject as u64
             }
             attr::PRIORITY => event.priority as u64,
             attr::CONFIG => event.oneshot as u64,

@@ -1,1 +1,3 @@
--- Nothing of its own.
+-- What is kept for each hart, and how it changes.
+pub mod Lines
+pub mod Steps

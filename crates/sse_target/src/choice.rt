@@ -1,57 +1,65 @@
-//! Urgency, and the unmasked hart of least number.
+//! The hart on which an instance is delivered, and what is chosen there.
 
 ghost use Rattle.std.specs.Prelude.{◌≡◌, not, position};
-ghost use Rattle.sse_base.specs.Choice.{is_more_urgent, urgency_of, more_urgent_of, is_above};
+ghost use Rattle.sse_base.specs.Choice.{is_masked, target};
+ghost use Rattle.sse_target.specs.Steps.{waits_on, picked};
 
-use sse_base::{EventId, Slot};
+use sse_base::{Instance, Slot, State};
+use sse_queue::{Urgency, is_more_urgent};
 
-/// How urgent an event is: its priority and its id, the smaller pair being the more urgent.
-type Urgency = (u32, EventId);
-
-/// Whether the first is strictly more urgent (SBI 3.0, "Supervisor Software Events", event priority).
-#[tactic(auto, unfolding(sse_base::specs::Choice::is_more_urgent))]
-fn is_more_urgent(a: Urgency, b: Urgency) -> bool
-    ensures { result ≡ is_more_urgent a b }
+/// Whether a hart is masked. One that the board hasn't counts as masked.
+pub fn is_masked(masks: &[bool], hart: u8) -> bool
+    ensures { result ≡ is_masked hart masks.now }
 {
-    a.0 < b.0 || (a.0 == b.0 && a.1.0 < b.1.0)
-}
-
-/// How urgent a slot's event is.
-fn urgency_of(slot: &Slot) -> Urgency
-    ensures { result ≡ urgency_of slot.now }
-{
-    (slot.event.priority, slot.at.id())
-}
-
-/// The more urgent of a slot and the most urgent of those after it.
-pub fn more_urgent_of(slot: Slot, rest: Option<Slot>) -> Slot
-    ensures { result ≡ more_urgent_of slot rest }
-{
-    match rest {
-        Some(other) => {
-            if is_more_urgent(urgency_of(&other), urgency_of(&slot)) {
-                other
-            } else {
-                slot
-            }
-        }
-        None => slot,
-    }
-}
-
-/// Whether nothing runs, or a slot's event is strictly more urgent than what runs.
-pub fn is_above(slot: &Slot, top: Option<Urgency>) -> bool
-    ensures { result ≡ is_above slot.now top }
-{
-    match top {
-        Some(top) => is_more_urgent(urgency_of(slot), top),
+    match masks.get(hart as usize) {
+        Some(masked) => *masked,
         None => true,
     }
 }
 
 /// The unmasked hart of least number. None exactly where all are masked.
-pub fn first_unmasked(masks: &[bool]) -> Option<usize>
+fn first_unmasked(masks: &[bool]) -> Option<usize>
     ensures { result ≡ position (λ masked. not masked) masks.now }
 {
     masks.iter().position(|masked| !*masked)
+}
+
+/// The hart on which an instance is delivered. None exactly where it is global and all are masked.
+#[tactic(auto, using(crate::proofs::First::first_is_position), unfolding(sse_base::specs::Choice::target))]
+pub fn target(masks: &[bool], at: Instance, preferred: u8) -> Option<usize>
+    ensures { result ≡ target at preferred masks.now }
+{
+    match at {
+        Instance::Local { hart, .. } => Some(hart as usize),
+        Instance::Global { .. } => {
+            if is_masked(masks, preferred) {
+                first_unmasked(masks)
+            } else {
+                Some(preferred as usize)
+            }
+        }
+    }
+}
+
+/// The hart for which a slot's instance waits. None exactly where it isn't enabled, isn't pending, or is
+/// delivered on no hart.
+pub fn waits_on(masks: &[bool], slot: &Slot) -> Option<usize>
+    ensures { result ≡ waits_on masks.now slot.now }
+{
+    if matches!(slot.event.state, State::Enabled) && slot.pending {
+        target(masks, slot.at, slot.event.preferred)
+    } else {
+        None
+    }
+}
+
+/// The first of a queue, where nothing runs or where it is strictly more urgent than what runs.
+pub fn picked(first: Option<(u32, Instance)>, top: Option<Urgency>) -> Option<Instance>
+    ensures { result ≡ picked first top }
+{
+    let (priority, at) = first?;
+    match top {
+        Some(top) if !is_more_urgent((priority, at.id()), top) => None,
+        _ => Some(at),
+    }
 }

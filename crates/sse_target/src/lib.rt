@@ -1,7 +1,9 @@
-//! Which harts are masked, and which event is delivered next on a hart.
+//! Which harts are masked, what waits for each, and which event is delivered next on a hart.
 #![tactic(auto)]
 
 mod choice;
+mod lines;
 mod targets;
 
+pub use sse_queue::Looks;
 pub use targets::Targets;

@@ -1,150 +1,151 @@
-//! The masks of the harts.
+//! The masks and queues of all harts.
 
-ghost use Rattle.std.specs.Prelude.{◌≡◌, ◌<◌, ◌≤◌, length, replicate, true, filter};
-ghost use Rattle.sse_base.specs.Choice.{is_masked, waits_for, is_hart, target, chosen, least};
-ghost use Rattle.sse_base.specs.Events.{slots};
+ghost use Rattle.std.specs.Prelude.{◌≡◌, ◌<◌, ◌≤◌, ◌+◌, ◌-◌, ◌^◌, ℕ, length, slice_set, true, false, if◌then◌else◌};
+ghost use Rattle.sse_base.specs.Ids.{FitsHarts};
+ghost use Rattle.sse_base.specs.Events.{Events, IsOnBoard};
+ghost use Rattle.sse_base.specs.Choice.{is_masked, chosen};
 ghost use Rattle.sse_base.specs.Calls.{mask, unmask};
+ghost use Rattle.sse_target.specs.Lines.{fresh_lines, Holds, HoldsBut};
 
-use crate::choice::{first_unmasked, is_above, more_urgent_of};
+use crate::choice::{is_masked, picked};
+use crate::lines::{follow_all, renew};
 use arrayvec::ArrayVec;
-use sse_base::{EventId, Instance, SbiCode, Slot, State};
+use sse_base::{EventId, Instance, MAX_HARTS, SbiCode};
+use sse_queue::{Looks, Queue};
 use sse_table::Table;
 use std::marker::Model;
 
-/// Which harts of a board are masked. A masked hart has no delivery, and is no target of a global event.
+/// Room for the most harts of a board.
+const HARTS: usize = MAX_HARTS as usize;
+
+/// Which harts of a board are masked, and for each hart the events that wait for it. A masked hart has no
+/// delivery, and is no target of a global event.
 #[derive(Drop)]
 pub struct Targets {
-    masks: ArrayVec<bool, 8>,
+    masks: ArrayVec<bool, HARTS>,
+    queues: ArrayVec<Queue, HARTS>,
 }
 
 impl Model for Targets {
-    ghost use Rattle.std.specs.Prelude.{Bool, List};
+    ghost use Rattle.std.specs.Prelude.{◌≡◌, length};
+    ghost use Rattle.sse_target.specs.Lines.{Lines};
 
-    ghost Value = { List Bool };
+    ghost Value = { Lines };
 
-    ghost view = { λ t. t.masks.items };
+    ghost view = { λ t. record { masks = t.masks.items; queues = t.queues.items } };
+
+    ghost invariant = { λ t. length t.queues.items ≡ length t.masks.items };
 }
 
 impl Targets {
-    /// Harts that are all masked.
-    #[tactic(auto, using(crate::proofs::First::more_masks))]
+    /// Harts that are all masked, where nothing waits.
+    #[tactic(auto, using(crate::proofs::First::more_masks, crate::proofs::First::more_queues))]
     pub fn new(harts: u8) -> Targets
-        requires { harts ≤ 8 }
-        ensures { result ≡ replicate harts true }
+        requires { harts ≤ MAX_HARTS }
+        ensures { result ≡ fresh_lines harts }
     {
         let mut masks = ArrayVec::new();
+        let mut queues = ArrayVec::new();
         for _ in 0..harts {
             masks.push(true);
+            queues.push(Queue::new());
         }
-        Targets { masks }
+        Targets { masks, queues }
     }
 
     /// Whether a hart is masked. One that the board hasn't counts as masked.
     pub fn is_masked(&self, hart: u8) -> bool
-        ensures { result ≡ is_masked hart self.now }
+        ensures { result ≡ is_masked hart self.now.masks }
     {
-        match self.masks.get(hart as usize) {
-            Some(masked) => *masked,
-            None => true,
-        }
+        is_masked(self.masks.as_slice(), hart)
+    }
+
+    /// Masks a hart or unmasks it, and lets each event wait where it is delivered now.
+    fn set_mask(&mut self, table: &Table, hart: u8, masked: bool)
+        requires hart { hart < length self.old.masks }
+        requires board { FitsHarts table.now.instances }
+        requires holds { Holds self.old table.now }
+        ensures masks { self.new.masks ≡ slice_set self.old.masks hart masked }
+        ensures holds { Holds self.new table.now }
+    {
+        let mut before: ArrayVec<bool, HARTS> = ArrayVec::new();
+        let _ = before.try_extend_from_slice(self.masks.as_slice());
+        self.masks[hart as usize] = masked;
+        follow_all(
+            self.queues.as_mut_slice(),
+            before.as_slice(),
+            self.masks.as_slice(),
+            table,
+        );
     }
 
     /// Masks a hart. One that is masked is already stopped; then nothing changes (SBI 3.0, "Supervisor
-    /// Software Events", hart mask).
-    pub fn mask(&mut self, _table: &Table, hart: u8) -> SbiCode
-        requires hart { hart < length self.old }
-        requires table { length self.old ≡ _table.now.harts }
-        ensures code { result ≡ (mask hart self.old).0 }
-        ensures masks { self.new ≡ (mask hart self.old).1 }
-        ensures harts { length self.new ≡ length self.old }
+    /// Software Events", hart mask). The queues are those of the table, before and after.
+    pub fn mask(&mut self, table: &Table, hart: u8) -> SbiCode
+        requires hart { hart < length self.old.masks }
+        requires board { FitsHarts table.now.instances }
+        requires holds { Holds self.old table.now }
+        ensures code { result ≡ (mask hart self.old.masks).0 }
+        ensures masks { self.new.masks ≡ (mask hart self.old.masks).1 }
+        ensures harts { length self.new.masks ≡ length self.old.masks }
+        ensures holds { Holds self.new table.now }
     {
         if self.masks[hart as usize] {
             return SbiCode::AlreadyStopped;
         }
-        self.masks[hart as usize] = true;
+        self.set_mask(table, hart, true);
         SbiCode::Success
     }
 
     /// Unmasks a hart. One that is unmasked is already started; then nothing changes (SBI 3.0, "Supervisor
-    /// Software Events", hart unmask).
-    pub fn unmask(&mut self, _table: &Table, hart: u8) -> SbiCode
-        requires hart { hart < length self.old }
-        requires table { length self.old ≡ _table.now.harts }
-        ensures code { result ≡ (unmask hart self.old).0 }
-        ensures masks { self.new ≡ (unmask hart self.old).1 }
-        ensures harts { length self.new ≡ length self.old }
+    /// Software Events", hart unmask). The queues are those of the table, before and after.
+    pub fn unmask(&mut self, table: &Table, hart: u8) -> SbiCode
+        requires hart { hart < length self.old.masks }
+        requires board { FitsHarts table.now.instances }
+        requires holds { Holds self.old table.now }
+        ensures code { result ≡ (unmask hart self.old.masks).0 }
+        ensures masks { self.new.masks ≡ (unmask hart self.old.masks).1 }
+        ensures harts { length self.new.masks ≡ length self.old.masks }
+        ensures holds { Holds self.new table.now }
     {
         if !self.masks[hart as usize] {
             return SbiCode::AlreadyStarted;
         }
-        self.masks[hart as usize] = false;
+        self.set_mask(table, hart, false);
         SbiCode::Success
     }
 
-    /// Whether a hart is the one on which an instance is delivered.
-    #[tactic(auto, using(crate::proofs::First::first_is_position), unfolding(sse_base::specs::Choice::target))]
-    fn is_target(&self, hart: u8, at: Instance, preferred: u8) -> bool
-        ensures { result ≡ is_hart hart (target at preferred self.now) }
+    /// Brings the queues up to date after an instance of the table changed its state, its priority or
+    /// whether it is pending; the masks stay.
+    pub fn on_change(&mut self, table: &Table, at: Instance)
+        requires board { FitsHarts table.now.instances }
+        requires on_board { IsOnBoard at table.now }
+        requires holds { HoldsBut at self.old table.now }
+        ensures masks { self.new.masks ≡ self.old.masks }
+        ensures holds { Holds self.new table.now }
     {
-        match at {
-            Instance::Local { hart: own, .. } => own == hart,
-            Instance::Global { .. } => {
-                if !self.is_masked(preferred) {
-                    return preferred == hart;
-                }
-                match first_unmasked(self.masks.as_slice()) {
-                    Some(first) => first == hart as usize,
-                    None => false,
-                }
-            }
-        }
-    }
-
-    /// Whether a slot's instance is enabled, pending and for this hart.
-    #[tactic(auto, unfolding(sse_base::specs::Choice::waits_for))]
-    fn waits_for(&self, hart: u8, slot: &Slot) -> bool
-        ensures { result ≡ waits_for hart self.now slot.now }
-    {
-        matches!(slot.event.state, State::Enabled)
-            && slot.pending
-            && self.is_target(hart, slot.at, slot.event.preferred)
-    }
-
-    /// The most urgent instance that waits for a hart.
-    #[tactic(auto, using(crate::proofs::First::one_before))]
-    fn most_urgent(&self, hart: u8, table: &Table) -> Option<Slot>
-        ensures { result ≡ least (filter (waits_for hart self.now) (slots table.now)) }
-    {
-        let mut best = None;
-        for i in (0..table.instances()).rev() {
-            let slot = table.slot(i);
-            if self.waits_for(hart, &slot) {
-                best = Some(more_urgent_of(slot, best));
-            }
-        }
-        best
+        let slot = table.slot_of(at);
+        renew(self.queues.as_mut_slice(), self.masks.as_slice(), &slot);
     }
 
     /// The instance that is delivered next on a hart where its newest handler is as urgent as `top`: the
     /// most urgent one that waits for it, where that is strictly more urgent. None exactly where there is
-    /// none (SBI 3.0, "Supervisor Software Events", event priority; the target is this project's own).
+    /// none. It takes at most one look, and none where the hart is masked (SBI 3.0, "Supervisor Software
+    /// Events", event priority; the target is this project's own).
     #[tactic(auto, unfolding(sse_base::specs::Choice::chosen))]
-    pub fn chosen(&self, hart: u8, top: Option<(u32, EventId)>, table: &Table) -> Option<Instance>
-        requires { length self.now ≡ table.now.harts }
-        ensures { result ≡ chosen hart self.now top table.now }
+    pub fn chosen(
+        &self,
+        hart: u8,
+        top: Option<(u32, EventId)>,
+        looks: &mut Looks,
+    ) -> Option<Instance>
+        requires { looks.old.count < 2 ^ 64 - 1 }
+        ensures chosen { (t : Events) → Holds self.now t → result ≡ chosen hart self.now.masks top t }
+        ensures looks { looks.new.count ≡ looks.old.count + (if is_masked hart self.now.masks then 0 else 1) }
     {
-        if self.is_masked(hart) {
+        if is_masked(self.masks.as_slice(), hart) {
             return None;
         }
-        match self.most_urgent(hart, table) {
-            Some(slot) => {
-                if is_above(&slot, top) {
-                    Some(slot.at)
-                } else {
-                    None
-                }
-            }
-            None => None,
-        }
+        picked(self.queues[hart as usize].first(looks), top)
     }
 }

@@ -16,7 +16,8 @@ impl Firmware {
     #[tactic(auto, using(crate::proofs::Places::stays))]
     pub(super) fn register(&mut self, hart: u8, args: [u64; 5]) -> CallNote
         requires { hart < self.old.events.harts }
-        ensures { Answers hart self.old self.new result (function hart Function.Register args self.old.stacks (reach hart self.old)) }
+        ensures { Answers hart self.old self.new result (function hart Function.Register args self.old.stacks
+            (reach hart self.old)) }
     {
         let at = match self.table.find(args[0], hart) {
             Ok(at) => at,
@@ -29,7 +30,8 @@ impl Firmware {
     #[tactic(auto, using(crate::proofs::Places::stays))]
     pub(super) fn unregister(&mut self, hart: u8, args: [u64; 5]) -> CallNote
         requires { hart < self.old.events.harts }
-        ensures { Answers hart self.old self.new result (function hart Function.Unregister args self.old.stacks (reach hart self.old)) }
+        ensures { Answers hart self.old self.new result (function hart Function.Unregister args self.old.stacks
+            (reach hart self.old)) }
     {
         let at = match self.table.find(args[0], hart) {
             Ok(at) => at,
@@ -42,37 +44,45 @@ impl Firmware {
     #[tactic(auto, using(crate::proofs::Places::stays))]
     pub(super) fn enable(&mut self, hart: u8, args: [u64; 5]) -> CallNote
         requires { hart < self.old.events.harts }
-        ensures { Answers hart self.old self.new result (function hart Function.Enable args self.old.stacks (reach hart self.old)) }
+        ensures { Answers hart self.old self.new result (function hart Function.Enable args self.old.stacks
+            (reach hart self.old)) }
     {
         let at = match self.table.find(args[0], hart) {
             Ok(at) => at,
             Err(code) => return note(code),
         };
-        note(self.table.enable(at))
+        let code = self.table.enable(at);
+        self.targets.on_change(&self.table, at);
+        note(code)
     }
 
     /// Disables an event.
     #[tactic(auto, using(crate::proofs::Places::stays))]
     pub(super) fn disable(&mut self, hart: u8, args: [u64; 5]) -> CallNote
         requires { hart < self.old.events.harts }
-        ensures { Answers hart self.old self.new result (function hart Function.Disable args self.old.stacks (reach hart self.old)) }
+        ensures { Answers hart self.old self.new result (function hart Function.Disable args self.old.stacks
+            (reach hart self.old)) }
     {
         let at = match self.table.find(args[0], hart) {
             Ok(at) => at,
             Err(code) => return note(code),
         };
-        note(self.table.disable(at))
+        let code = self.table.disable(at);
+        self.targets.on_change(&self.table, at);
+        note(code)
     }
 
     /// Completes the newest handler of the hart; where none runs nothing changes.
     #[tactic(auto, using(crate::proofs::Places::stays))]
     pub(super) fn complete(&mut self, hart: u8) -> CallNote
         requires { hart < self.old.events.harts }
-        ensures { Answers hart self.old self.new result (function hart Function.Complete [] self.old.stacks (reach hart self.old)) }
+        ensures { Answers hart self.old self.new result (function hart Function.Complete [] self.old.stacks
+            (reach hart self.old)) }
     {
         let stack = &mut self.stacks[hart as usize];
-        if let Some(at) = stack.complete() {
-            self.table.set_completed(at);
+        if let Some(done) = stack.complete() {
+            self.table.set_completed(done);
+            self.targets.on_change(&self.table, done);
         }
         note(SbiCode::Success)
     }
@@ -81,7 +91,8 @@ impl Firmware {
     #[tactic(auto, using(crate::proofs::Places::stays))]
     pub(super) fn unmask(&mut self, hart: u8) -> CallNote
         requires { hart < self.old.events.harts }
-        ensures { Answers hart self.old self.new result (function hart Function.HartUnmask [] self.old.stacks (reach hart self.old)) }
+        ensures { Answers hart self.old self.new result (function hart Function.HartUnmask [] self.old.stacks
+            (reach hart self.old)) }
     {
         note(self.targets.unmask(&self.table, hart))
     }
@@ -90,7 +101,8 @@ impl Firmware {
     #[tactic(auto, using(crate::proofs::Places::stays))]
     pub(super) fn mask(&mut self, hart: u8) -> CallNote
         requires { hart < self.old.events.harts }
-        ensures { Answers hart self.old self.new result (function hart Function.HartMask [] self.old.stacks (reach hart self.old)) }
+        ensures { Answers hart self.old self.new result (function hart Function.HartMask [] self.old.stacks
+            (reach hart self.old)) }
     {
         note(self.targets.mask(&self.table, hart))
     }
@@ -99,7 +111,8 @@ impl Firmware {
     #[tactic(auto, using(crate::proofs::Places::stays, crate::proofs::Injects::injected_none, crate::proofs::Injects::injected_some))]
     pub(super) fn inject(&mut self, hart: u8, args: [u64; 5]) -> CallNote
         requires { hart < self.old.events.harts }
-        ensures { Answers hart self.old self.new result (function hart Function.Inject args self.old.stacks (reach hart self.old)) }
+        ensures { Answers hart self.old self.new result (function hart Function.Inject args self.old.stacks
+            (reach hart self.old)) }
     {
         let at = match self.table.find(args[0], hart) {
             Ok(at) => at,
@@ -112,7 +125,7 @@ impl Firmware {
             Some(to) => to,
             None => return note(SbiCode::InvalidParam),
         };
-        self.table.signal(to);
+        self.signal(to);
         note(SbiCode::Success)
     }
 
@@ -174,7 +187,8 @@ impl Firmware {
     #[tactic(auto, using(crate::proofs::Places::stays))]
     pub(super) fn read_attrs(&mut self, hart: u8, args: [u64; 5]) -> CallNote
         requires { hart < self.old.events.harts }
-        ensures { Answers hart self.old self.new result (function hart Function.ReadAttrs args self.old.stacks (reach hart self.old)) }
+        ensures { Answers hart self.old self.new result (function hart Function.ReadAttrs args self.old.stacks
+            (reach hart self.old)) }
     {
         let at = match self.table.find(args[0], hart) {
             Ok(at) => at,
@@ -194,7 +208,8 @@ impl Firmware {
     #[tactic(auto, using(crate::proofs::Places::stays))]
     pub(super) fn write_attrs(&mut self, hart: u8, args: [u64; 5]) -> CallNote
         requires { hart < self.old.events.harts }
-        ensures { Answers hart self.old self.new result (function hart Function.WriteAttrs args self.old.stacks (reach hart self.old)) }
+        ensures { Answers hart self.old self.new result (function hart Function.WriteAttrs args self.old.stacks
+            (reach hart self.old)) }
     {
         let at = match self.table.find(args[0], hart) {
             Ok(at) => at,

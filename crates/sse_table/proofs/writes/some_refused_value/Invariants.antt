@@ -5,4 +5,5 @@ use Rattle.sse_table.proofs.writes.some_refused_value.Given as goal
 
 abbrev pub invariant-loop-i : goal.invariant-loop-i
 invariant-loop-i l =
-    some_word (is_refused_value l.harts) l.base l.values ≡ some_word (is_refused_value l.harts) (l.base + l.i) (drop l.i l.values)
+    some_word (is_refused_value l.harts) l.base l.values
+    ≡ some_word (is_refused_value l.harts) (l.base + l.i) (drop l.i l.values)

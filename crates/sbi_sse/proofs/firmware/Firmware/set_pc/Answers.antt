@@ -7,6 +7,13 @@ use Rattle.sbi_sse.proofs.firmware.Firmware.set_pc.Goals as goal
 
 pub invariant_of-self : goal.invariant_of-self
 invariant_of-self c =
-    let l : c.args.hart < length c.self.inside.stacks.items = omega (arith, ap (λ (m : Machine). m.events.harts) c.self.view_is, c.self.invariant.harts)
-    in frames_keep c.self.inside.table c.self.inside.targets c.self.inside.stacks.items c.args.hart c.index_mut-stack.result.now c.set_pc.new.self c.self.invariant l
-    (ap (λ (s : Stack). ats s.frames) c.set_pc.ensures ∙ ap (λ (s : Stack). ats s.frames) c.index_mut-stack.ensures.value)
+    let l : c.args.hart < length c.self.inside.stacks.items =
+    omega (arith, ap (λ (m : Machine). m.events.harts) c.self.view_is, c.self.invariant.kept.harts)
+    in record {
+      kept =
+          frames_keep c.self.inside.table c.self.inside.targets.masks c.self.inside.stacks.items c.args.hart
+          c.index_mut-stack.result.now c.set_pc.new.self c.self.invariant.kept l
+          (ap (λ (s : Stack). ats s.frames) c.set_pc.ensures
+          ∙ ap (λ (s : Stack). ats s.frames) c.index_mut-stack.ensures.value);
+      serves = c.self.invariant.serves;
+    }

@@ -5,6 +5,8 @@ use Rattle.sbi_sse.proofs.firmware.Firmware.top.Goals as goal
 
 pub priority-requires : goal.priority-requires
 priority-requires c =
-    let l : c.args.hart < length c.self.inside.stacks.items = omega (arith, ap (λ (m : Machine). m.events.harts) c.self.view_is, c.self.invariant.harts)
-    in runs_on_board c.in-Some.at c.self.inside.table c.self.invariant.each
-    (newest_stands c.self.inside.table c.self.inside.targets c.self.inside.stacks.items c.args.hart c.index.result.now c.in-Some.at c.self.invariant l c.index.ensures (sym c.in-Some.ensures))
+    let l : c.args.hart < length c.self.inside.stacks.items =
+    omega (arith, ap (λ (m : Machine). m.events.harts) c.self.view_is, c.self.invariant.kept.harts)
+    in runs_on_board c.in-Some.at c.self.inside.table c.self.invariant.kept.each
+    (newest_stands c.self.inside.table c.self.inside.targets.masks c.self.inside.stacks.items c.args.hart
+    c.index.result.now c.in-Some.at c.self.invariant.kept l c.index.ensures (sym c.in-Some.ensures))

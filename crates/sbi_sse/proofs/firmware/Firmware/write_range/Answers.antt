@@ -1,11 +1,37 @@
-use Rattle.std.proofs.Common.{◌<◌, length, ap, take, arith}
+use Rattle.std.proofs.Common.{◌≡◌, ◌∙◌, ◌<◌, length, ap, sym, subst, take, arith}
+use Rattle.sse_base.specs.declared.codes.SbiCode.{SbiCode}
+use Rattle.sse_base.specs.declared.codes.SbiCode.TheVariants.{Success}
+use Rattle.sse_base.specs.Events.{IsOnBoard}
+use Rattle.sbi_sse.specs.Kept.{Serves}
+use Rattle.sbi_sse.proofs.Queues.{write_serves}
 use Rattle.sse_base.specs.Machine.{Machine}
 use Rattle.sbi_sse.proofs.Keeps.{writing_keeps}
 use Rattle.sbi_sse.proofs.firmware.Firmware.write_range.Goals as goal
+use Rattle.sbi_sse.proofs.firmware.Firmware.write_range.Goals.{in-Success, in_default}
 
 pub invariant_of-self-2 : goal.invariant_of-self-2
 invariant_of-self-2 c =
-    let l : c.args.hart < length c.self.inside.stacks.items = omega (arith, ap (λ (m : Machine). m.events.harts) c.self.view_is, c.self.invariant.harts)
-    in writing_keeps c.self.inside.table c.set_attrs.new.self c.self.inside.targets c.self.inside.stacks.items c.args.hart c.args.range.base
-    (take c.args.range.count c.read_words-words.result) c.index_mut-stack.result.now c.write_interrupted.new.self c.args.at c.self.invariant l
-    c.index_mut-stack.ensures.value c.write_interrupted.ensures c.set_attrs.ensures
+    let l : c.args.hart < length c.self.inside.stacks.items =
+    omega (arith, ap (λ (m : Machine). m.events.harts) c.self.view_is, c.self.invariant.kept.harts)
+    in record {
+      kept =
+          writing_keeps c.self.inside.table c.set_attrs.new.self c.self.inside.targets.masks
+          c.self.inside.stacks.items c.args.hart c.args.range.base
+          (take c.args.range.count c.read_words-words.result) c.index_mut-stack.result.now
+          c.write_interrupted.new.self c.args.at c.self.invariant.kept l
+          c.index_mut-stack.ensures.value c.write_interrupted.ensures c.set_attrs.ensures;
+      serves =
+          let ok : c.check_write-code.result ≡ Success =
+          elim c.match-matches.branch [
+            | in-Success w ↦ w.in-Success.is
+            | in_default w ↦ grind (
+              arith,
+              w.matches-is,
+            )
+          ]
+          in subst (Serves c.self.inside.targets) (sym c.set_attrs.ensures)
+          (write_serves c.args.range.base (take c.args.range.count c.read_words-words.result) c.args.at c.has.result
+          c.self.inside.targets c.self.inside.table
+          (subst (λ (m : Machine). IsOnBoard c.args.at m.events) (sym c.self.view_is) c.requires.on_board)
+          c.self.invariant.kept.each c.self.invariant.serves (sym c.check_write-code.ensures ∙ ok));
+    }

@@ -1,0 +1,4 @@
+pub mod Held
+pub mod Errors
+pub mod Phased
+pub mod Meaning

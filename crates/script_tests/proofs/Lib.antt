@@ -1,0 +1,2 @@
+-- Worked scripts, computed from the board book.
+mod WorkedScripts
