@@ -1,7 +1,6 @@
--- The canonical text of a plan: each statement once, in one order, each number in decimal. This project's own.
--- The statements stand in this order: the board; events; each bank with its `plat` and its `gather`; records; ops;
--- starts;
--- reporters, each with its acts; the schedule.
+-- The canonical text of a plan: each statement once, in one order, each number in decimal. This project's own. The
+-- statements stand in this order: the board; events; each bank with its `plat` and its `gather`; records; ops;
+-- starts; reporters, each with its acts; the schedule.
 use Rattle.std.specs.Prelude.{ℕ, ◌+◌, ◌==◌, ◌&&◌, not, Bool, if◌then◌else◌}
 use Rattle.std.specs.Prelude.{List, [], ◌∷◌, ◌++◌, map, length, Option, Some, None, codes, decimal}
 use Rattle.std.specs.List.{join_with_byte}

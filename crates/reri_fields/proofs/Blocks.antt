@@ -34,7 +34,8 @@ unfolding block_status has_worst is_worst is_corrected is_uncorrected are_severa
 several_corrected = refl
 
 -- the whole block of a corrected error of priority 1 and code 3 at 0x1000
-one_block : spelling (record { control = 0x95; status = 0x30093; address = 0x1000; info = 5; supplement = 0; time = 9 } ∷ []) ≡
+one_block : spelling (record
+    { control = 0x95; status = 0x30093; address = 0x1000; info = 5; supplement = 0; time = 9 } ∷ []) ≡
     0x12 ∷ 0 ∷ 0 ∷ 0 ∷ 0 ∷ 0 ∷ 0 ∷ 0 ∷ 0 ∷ 0 ∷ 0 ∷ 0 ∷ 0x78 ∷ 0 ∷ 0 ∷ 0 ∷ 2 ∷ 0 ∷ 0 ∷ 0
     ∷ 0x52 ∷ 0x45 ∷ 0x52 ∷ 0x49 ∷ 0x2d ∷ 0x52 ∷ 0x45 ∷ 0x43 ∷ 0x4f ∷ 0x52 ∷ 0x44 ∷ 0x2d ∷ 0x30 ∷ 0x30 ∷ 0x30 ∷ 0x31
     ∷ 2 ∷ 0 ∷ 0 ∷ 0 ∷ 0 ∷ 3 ∷ 0 ∷ 0 ∷ 0x30 ∷ 0 ∷ 0 ∷ 0 ∷ replicate 44 0

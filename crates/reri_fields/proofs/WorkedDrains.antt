@@ -96,8 +96,7 @@ unfolding bank_step asks raised least_signalled is_signalled_after level_after e
 two_asks = refl
 
 -- No drain begins while the slot is full. Once it is acknowledged, one begins whose Scan finds nothing: it is over,
--- and the
--- bank no longer asks.
+-- and the bank no longer asks.
 abbrev drained : BankState
 drained = after two bank_start (two_errors ++ replicate 17 Drains)
 
