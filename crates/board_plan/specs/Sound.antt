@@ -181,7 +181,7 @@ EachSignalledAsks plan s =
 
 -- ---- 8: a drain's record stays valid, and its slot holds its own copies ----
 
--- from the Scan that took a record up to the Invalidate
+-- the phases of a drain that has taken a record and not left it yet
 abbrev pub has_record : Phase → Bool
 has_record Scan = false
 has_record Signal = false

@@ -1,3 +1,4 @@
+-- Goals of `gather_1` that the tactics leave open.
 use Rattle.std.proofs.Common.{◌<◌, length, arith, ap, ◌∙◌}
 use Rattle.script_write.proofs.Gathers.{gathers_more}
 use Rattle.script_write.proofs.moving.gather_1.Goals as goal

@@ -1,3 +1,4 @@
+-- What the loop of `put_entries` keeps.
 use Rattle.std.proofs.Common.{◌≡◌, ◌+◌, ◌*◌, ◌≤◌, ◌++◌, map, length, take}
 use Rattle.ras_text.specs.Lines.{text_of, sink_of, SameSink}
 use Rattle.board_plan.specs.Notes.{after_spaces}

@@ -1,3 +1,4 @@
+-- Goals of `write_acts` that the tactics leave open.
 use Rattle.std.proofs.Common.{◌∙◌}
 use Rattle.board_plan.specs.Canonical.{act_line}
 use Rattle.script_write.proofs.Progress.{progress-more, progress-fault, progress-end, progress-same}

@@ -1,3 +1,4 @@
+-- Goals of `write_at` that the tactics leave open.
 use Rattle.std.proofs.Common.{refl, sym}
 use Rattle.ras_io.proofs.Puts.{Puts-same}
 use Rattle.script_write.proofs.Progress.{progress-start, progress-end}

@@ -1,3 +1,4 @@
+-- Goals of `write_bank` that the tactics leave open.
 use Rattle.script_write.proofs.Progress.{progress-start, progress-more, progress-last}
 use Rattle.script_write.proofs.writing.write_bank.Goals as goal
 

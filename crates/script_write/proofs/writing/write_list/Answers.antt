@@ -1,3 +1,4 @@
+-- Goals of `write_list` that the tactics leave open.
 use Rattle.script_write.proofs.Progress.{progress-start, progress-more, progress-fault, progress-last}
 use Rattle.script_write.proofs.writing.write_list.Goals as goal
 

@@ -1,3 +1,4 @@
+-- What the loop of `write_ops` keeps.
 use Rattle.std.proofs.Common.{◌≡◌, ◌+◌, [], drop}
 use Rattle.ras_text.specs.Lines.{text_of, sink_of, SameSink}
 use Rattle.board_plan.specs.Canonical.{lines_text, op_lines}

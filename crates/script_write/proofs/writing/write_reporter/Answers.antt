@@ -1,3 +1,4 @@
+-- Goals of `write_reporter` that the tactics leave open.
 use Rattle.std.proofs.Common.{List, ◌++◌, map, refl, sym, ap, ◌∙◌}
 use Rattle.ras_io.proofs.Puts.{Puts-same}
 use Rattle.ras_device.specs.declared.act.Act.{Act}

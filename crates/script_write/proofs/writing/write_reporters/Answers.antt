@@ -1,3 +1,4 @@
+-- Goals of `write_reporters` that the tactics leave open.
 use Rattle.std.proofs.Common.{◌∙◌}
 use Rattle.script_write.proofs.Progress.{progress-more, progress-fault, progress-end, progress-same}
 use Rattle.script_write.proofs.Wholes.{next_reporter, no_reporter}

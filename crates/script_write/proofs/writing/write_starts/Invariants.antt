@@ -1,3 +1,4 @@
+-- What the loop of `write_starts` keeps.
 use Rattle.std.proofs.Common.{◌≡◌, [], map, drop}
 use Rattle.ras_text.specs.Lines.{text_of, sink_of, SameSink}
 use Rattle.board_plan.specs.Canonical.{lines_text, start_line}
