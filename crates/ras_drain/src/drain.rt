@@ -1,9 +1,9 @@
 //! The drain.
 
-ghost use Rattle.std.specs.Prelude.{◌≡◌, ◌≤◌, ◌<◌, ℕ, List, IsSome, Some, None, option_map};
+ghost use Rattle.std.specs.Prelude.{◌≡◌, ◌≤◌, ◌<◌, ℕ, List, [], IsSome, Some, None, option_map};
 ghost use Rattle.std.specs.Option.{option_map_or};
 ghost use Rattle.reri_fields.specs.Records.{Origin};
-ghost use Rattle.reri_fields.specs.Banks.{BankEvent};
+ghost use Rattle.reri_fields.specs.Banks.{BankEvent, BankView};
 ghost use Rattle.reri_fields.specs.Drain.{BankPlan, BankState, Draining, fresh_drain, phase_step};
 ghost use Rattle.ras_drain.specs.Fits.{Fits, HasRoom};
 ghost use Rattle.ras_drain.specs.Steps.{IsAt, Took, TornAfterClaim, StoodAfterCheck};
@@ -55,6 +55,8 @@ impl Drain {
         requires few { gather ≤ 4 }
         ensures begins { self.new.drain ≡ Some fresh_drain }
         ensures gathers { self.new.gather ≡ gather }
+        ensures fits { (bank : BankView) → Fits self.new bank }
+        ensures room { HasRoom self.new.drain [] }
     {
         self.gather = gather;
         self.at = Some(At {

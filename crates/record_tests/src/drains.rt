@@ -1,6 +1,5 @@
 //! Drains at work, phase by phase, with errors and acknowledgements between the phases.
 ghost use Rattle.std.specs.Prelude.{All, ◌≤◌, ◌<◌, length};
-ghost use Rattle.ras_drain.specs.Fits.{Fits, HasRoom};
 
 use crate::words::{PLAIN, shows};
 use ghes_block::Slot;
@@ -9,6 +8,7 @@ use ras_io::NoMemory;
 use reri_bank::Bank;
 use reri_fields::{Control, Logged, RecordCopy, Report, Severity, Status};
 use std::alloc::Global;
+use std::marker::Model;
 use std::test::Fail;
 
 // A bank with its slot and its drain.
@@ -17,8 +17,20 @@ struct Bench {
     bank: Bank,
     slot: Slot,
     drain: Drain,
-    ghost fits: { Fits drain bank },
-    ghost room: { HasRoom drain.drain slot },
+}
+
+impl Model for Bench {
+    ghost use Rattle.std.specs.Prelude.{List};
+    ghost use Rattle.reri_fields.specs.declared.report.RecordCopy.{RecordCopy};
+    ghost use Rattle.reri_fields.specs.Banks.{BankView};
+    ghost use Rattle.ras_drain.specs.Fits.{DrainView, Fits, HasRoom};
+
+    ghost Value = { BankView × List RecordCopy × DrainView };
+
+    ghost view = { λ b. (b.bank, b.slot, b.drain) };
+
+    // The drain may take a step whenever it is under way.
+    ghost invariant = { λ b. Fits b.drain b.bank × HasRoom b.drain.drain b.slot };
 }
 
 impl Bench {
@@ -35,7 +47,6 @@ impl Bench {
     }
 
     // An error of this rank for a record, whose address and time tell it from others.
-    #[tactic(auto, using(ras_drain::proofs::Errors::report_keeps_fit))]
     fn report(&mut self, rec: u8, severity: Severity, priority: u8, time: u64) -> Option<Logged>
         requires { priority < 4 }
     {
