@@ -1,5 +1,5 @@
 -- A drain that begins fits any bank, and a slot that is free has room for any drain.
-use Rattle.std.proofs.Common.{◌≡◌, true, false, [], Option, Some, None, sym, arith}
+use Rattle.std.proofs.Common.{[], Option, Some, None, sym, arith}
 use Rattle.std.proofs.lemmas.Bool.{true≢false}
 use Rattle.reri_fields.specs.declared.report.RecordCopy.{RecordCopy}
 use Rattle.reri_fields.specs.Banks.{BankView}

@@ -138,7 +138,8 @@ fn nothing_to_drain(rt: HostRuntime) -> Result<(), Fail> {
     Ok(())
 }
 
-// An error that comes while the registers are read, at any of the four reads, tears the claim where it writes the record.
+// An error that comes while the registers are read, at any of the four reads, tears the claim where it writes the
+// record.
 #[test]
 fn a_claim_is_torn_at_each_read(rt: HostRuntime) -> Result<(), Fail> {
     for at in 0..5usize {
@@ -267,7 +268,8 @@ fn two_copies_are_gathered(rt: HostRuntime) -> Result<(), Fail> {
     Ok(())
 }
 
-// Of six signalled records a drain of four takes the first four, and the next one, once the slot is free, the other two.
+// Of six signalled records a drain of four takes the first four, and the next one, once the slot is free, the other
+// two.
 #[test]
 fn four_of_six_records_are_gathered(rt: HostRuntime) -> Result<(), Fail> {
     let mut bench = Bench::new(rt.alloc(), &[(PLAIN, 0); 6])?;

@@ -1,5 +1,4 @@
 -- A drain that begins fits any bank.
-use Rattle.std.proofs.Common.{sym, subst}
 use Rattle.ras_drain.proofs.Beginning.{fresh_fits}
 use Rattle.ras_drain.proofs.drain.Drain.begin.Goals as goal
 
