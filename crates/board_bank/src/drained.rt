@@ -54,7 +54,8 @@ impl BoardBank {
         requires controls { All (λ first. first.0 ≤ 0xff) start.now }
         requires some { 1 ≤ gather }
         requires few { gather ≤ MAX_GATHERED }
-        ensures { IfOk result (λ b. StandsFor (record { origins = map origin_of start.now; gather = gather }) bank_start b) }
+        ensures { IfOk result
+            (λ b. StandsFor (record { origins = map origin_of start.now; gather = gather }) bank_start b) }
     {
         let bank = Bank::new(alloc, start)?;
         Ok(BoardBank {

@@ -162,7 +162,8 @@ fn sbi(firmware: &mut Firmware, hart: u8, eid: u64, fid: u64, args: [u64; 5]) ->
 #[tactic(auto, using(crate::proofs::Levels::stays))]
 fn execute(firmware: &mut Firmware, hart: u8, op: Op) -> StepNote
     requires { hart < firmware.old.events.harts }
-    ensures { Executes hart firmware.old firmware.new result (own_done hart firmware.old.stacks (reach hart firmware.old) op) }
+    ensures { Executes hart firmware.old firmware.new result
+        (own_done hart firmware.old.stacks (reach hart firmware.old) op) }
 {
     match op {
         Op::Nop | Op::Ack { .. } | Op::Unplug { .. } => StepNote::Nop,
@@ -187,7 +188,8 @@ fn execute(firmware: &mut Firmware, hart: u8, op: Op) -> StepNote
 /// note is `Nop`.
 pub fn step(firmware: &mut Firmware, hart: u8, op: Op) -> StepNote
     requires { hart < firmware.old.events.harts }
-    ensures { Executes hart firmware.old firmware.new result (own_step hart firmware.old.stacks (reach hart firmware.old) op) }
+    ensures { Executes hart firmware.old firmware.new result
+        (own_step hart firmware.old.stacks (reach hart firmware.old) op) }
 {
     let _harts = firmware.harts();
     let illegal = is_illegal(firmware, hart, &op);

@@ -21,14 +21,15 @@ op sbi 0x535345 6
 start 0 0x1000 100
 ";
 
+// without the ends of the lines
 const LINES: [&[u8]; 7] = [
-    b"board 1 harts 1 banks 0 reporters 0 steps 7\n",
-    b"hart 0 steps 7 masked 0 pc 0x1010 priv S sie 0 sepc 0x0 spp 0 spie 0 a6 0x0 a7 0x0 depth 0 calls 5 failed 0 last 0\n",
-    b"event 0xffff0000 hart 0 state 2 pending 0 priority 0 config 0 preferred 0 entry 0x2000 arg 0x7\n",
-    b"fates made 0 stray 0 disabled 0 counted 0 drained 0 overwritten 0 kept 0 stands 0\n",
-    b"word 0x80000000 0x1\n",
-    b"schedule h0 h0 h0 h0 h0 h0 h0\n",
-    b"end\n",
+    b"board 1 harts 1 banks 0 reporters 0 steps 7",
+    b"hart 0 steps 7 masked 0 pc 0x1010 priv S sie 0 sepc 0x0 spp 0 spie 0 a6 0x0 a7 0x0 depth 0 calls 5 failed 0 last 0",
+    b"event 0xffff0000 hart 0 state 2 pending 0 priority 0 config 0 preferred 0 entry 0x2000 arg 0x7",
+    b"fates made 0 stray 0 disabled 0 counted 0 drained 0 overwritten 0 kept 0 stands 0",
+    b"word 0x80000000 0x1",
+    b"schedule h0 h0 h0 h0 h0 h0 h0",
+    b"end",
 ];
 
 const REFUSED: Status = Status::BadScript {
@@ -41,6 +42,7 @@ fn report(alloc: Global, count: usize) -> Result<Vec<u8>, AllocError> {
     let mut all = Vec::new(alloc);
     for line in LINES.iter().take(count) {
         all.extend_from_slice(line)?;
+        all.push(b'\n')?;
     }
     Ok(all)
 }

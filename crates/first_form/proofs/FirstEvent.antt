@@ -1,6 +1,6 @@
 -- A worked script: a hart unmasks itself, registers, enables and injects the software event, and its handler counts a
 -- word up and completes. Each fact is computed from the definitions of the board book.
-use Rattle.std.specs.Prelude.{◌≡◌, ℕ, pos, true, false, List, [], ◌∷◌, replicate, map, Some, codes}
+use Rattle.std.specs.Prelude.{◌≡◌, ℕ, pos, true, false, List, [], ◌∷◌, ◌++◌, replicate, map, Some, codes}
 use Rattle.std.proofs.Common.{refl}
 use Rattle.sse_base.specs.declared.arrows.State.TheVariants.{Enabled}
 use Rattle.sse_base.specs.declared.codes.SbiCode.TheVariants.{Success}
@@ -26,8 +26,10 @@ use Rattle.first_form.specs.Text.{field, head_line, context_text, counts_text, h
 
 abbrev pub script : List ℕ
 script =
-    codes
-    "board 1 1\nevent 0xffff0000 inject\nat 0x1000\nop sbi 0x535345 8\nop sbi 0x535345 2 0xffff0000 0x2000 7\nop sbi 0x535345 4 0xffff0000\nop sbi 0x535345 7 0xffff0000 0\nat 0x2000\nop inc 0x80000000\nop sbi 0x535345 6\nstart 0 0x1000 100\n"
+    codes "board 1 1\nevent 0xffff0000 inject\nat 0x1000\nop sbi 0x535345 8\n"
+    ++ codes "op sbi 0x535345 2 0xffff0000 0x2000 7\nop sbi 0x535345 4 0xffff0000\n"
+    ++ codes "op sbi 0x535345 7 0xffff0000 0\nat 0x2000\nop inc 0x80000000\nop sbi 0x535345 6\n"
+    ++ codes "start 0 0x1000 100\n"
 
 -- an op at an address, and a call with three arguments that aren't 0
 abbrev op_on : ℕ → Op → Placed
@@ -116,8 +118,12 @@ the_eighth_round_is_idle = refl
 
 pub the_report_is :
     full plan (rounds plan 8)
-    ≡ codes
-    "board 1 harts 1 banks 0 reporters 0 steps 7\nhart 0 steps 7 masked 0 pc 0x1010 priv S sie 0 sepc 0x0 spp 0 spie 0 a6 0x0 a7 0x0 depth 0 calls 5 failed 0 last 0\nevent 0xffff0000 hart 0 state 2 pending 0 priority 0 config 0 preferred 0 entry 0x2000 arg 0x7\nfates made 0 stray 0 disabled 0 counted 0 drained 0 overwritten 0 kept 0 stands 0\nword 0x80000000 0x1\nschedule h0 h0 h0 h0 h0 h0 h0\nend\n"
+    ≡ codes "board 1 harts 1 banks 0 reporters 0 steps 7\n"
+    ++ codes "hart 0 steps 7 masked 0 pc 0x1010 priv S sie 0 "
+    ++ codes "sepc 0x0 spp 0 spie 0 a6 0x0 a7 0x0 depth 0 calls 5 failed 0 last 0\n"
+    ++ codes "event 0xffff0000 hart 0 state 2 pending 0 priority 0 config 0 preferred 0 entry 0x2000 arg 0x7\n"
+    ++ codes "fates made 0 stray 0 disabled 0 counted 0 drained 0 overwritten 0 kept 0 stands 0\n"
+    ++ codes "word 0x80000000 0x1\nschedule h0 h0 h0 h0 h0 h0 h0\nend\n"
 unfolding step same_instance is_more_urgent target waits_for chosen is_reserved class_of is_platform is_global field
     head_line context_text counts_text hart_line event_line word_line schedule_line entries_of_line hexadecimal digits
 the_report_is = refl
