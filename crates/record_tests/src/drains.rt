@@ -210,7 +210,7 @@ fn a_newer_error_is_not_cleared(rt: HostRuntime) -> Result<(), Fail> {
         ])
     );
     let stays = shows(1, 2).with_ued(true).with_uec(true);
-    assert_eq!(rt; bench.bank.copy_of(0).status, stays.0);
+    assert_eq!(rt; bench.bank.word(16), Some(stays.0));
     assert!(rt; bench.bank.asks());
     assert_eq!(rt; bench.slot.copies(), [first].as_slice());
     Ok(())
