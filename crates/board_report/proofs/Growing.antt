@@ -41,8 +41,10 @@ grows-then a b d xs ys p q = go a.written b.written d.written a.faults b.faults 
   where
     whole : (v w : Option (List ℕ)) → Appends v w (bytes_of xs ++ bytes_of ys) → Appends v w (bytes_of (xs ++ ys))
     whole v w h = subst (Appends v w) (sym (bytes_of-append xs ys)) h
+
     front : (v w : Option (List ℕ)) → AppendsFront v w (bytes_of xs ++ bytes_of ys) → AppendsFront v w (bytes_of (xs ++ ys))
     front v w h = subst (AppendsFront v w) (sym (bytes_of-append xs ys)) h
+
     go : (u v w : Option (List ℕ)) (f g h k m n : ℕ) (o r s : Result (Unit {0}) SinkFault) → Grows (at u f k o) (at v g m r) xs → Grows (at v g m r) (at w h n s) ys → Grows (at u f k o) (at w h n s) (xs ++ ys)
     go u v w f g h k m n (Err e) r s p q = record { all = tt; still = (subst (λ t. Grows t (at w h n s) ys) p.still q).still }
     go u v w f g h k m n (Ok i) (Err e) s p q =

@@ -100,12 +100,7 @@ pub(crate) fn put_bank<K: Sink>(
 
 /// The registers of a record.
 #[tactic(auto, unfolding(board_plan::specs::Text::record_line))]
-pub(crate) fn put_registers<K: Sink>(
-    line: &mut Line<'_, K>,
-    bank: u8,
-    rec: u8,
-    copy: &RecordCopy,
-)
+pub(crate) fn put_registers<K: Sink>(line: &mut Line<'_, K>, bank: u8, rec: u8, copy: &RecordCopy)
     requires { text_of line.old ≡ [] }
     ensures text { text_of line.new ≡ record_line bank rec copy.now }
     ensures room { length (text_of line.new) ≤ 512 }

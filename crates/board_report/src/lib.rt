@@ -6,3 +6,4 @@ mod fields;
 mod hart_lines;
 mod pages;
 mod run_lines;
+mod writes;
