@@ -14,9 +14,12 @@ bytes_of-append (x ∷ xs) ys = ap (λ bs. x ++ 10 ∷ bs) (bytes_of-append xs y
 
 many-more : (n : ℕ) (xs ys : List (List ℕ)) → many (many n (length xs)) (length ys) ≡ many n (length (xs ++ ys))
 many-more n xs [] = ap (λ l. many n (length l)) (sym (append-nil xs))
-many-more n xs (y ∷ ys) = ap one_more (many-more n xs ys) ∙ ap (λ k. many n k) (omega (arith, length-append xs (y ∷ ys), length-append xs ys))
+many-more n xs (y ∷ ys) =
+    let longer : suc (length (xs ++ ys)) ≡ length (xs ++ y ∷ ys) = omega (arith, length-append xs (y ∷ ys), length-append xs ys) in
+    ap one_more (many-more n xs ys) ∙ ap (λ (k : ℕ). many n k) longer
 
-at : Option (List ℕ) → ℕ → ℕ → Result (Unit {0}) SinkFault → State
+-- how far pages are
+abbrev at : Option (List ℕ) → ℕ → ℕ → Result (Unit {0}) SinkFault → State
 at w f n o = record { written = w; faults = f; writes = n; outcome = o }
 
 -- nothing was to be written

@@ -2,3 +2,4 @@
 pub mod Growing
 pub mod LineParts
 pub mod LineTexts
+pub mod OneMore

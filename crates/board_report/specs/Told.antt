@@ -16,9 +16,9 @@ use Rattle.board_plan.specs.Text.{field, bit_text, scope_text, slot_text, phase_
 -- a handler that runs, by its INTERRUPTED attributes
 unfoldable pub told_line : ℕ → ℕ → Instance → Saved → List ℕ
 told_line h number at saved =
-    codes "frame " ++ decimal h ++ 32 ∷ [] ++ decimal number ++ field (codes "event") (hexadecimal (id_of at).0)
+    codes "frame " ++ decimal h ++ 32 ∷ (decimal number ++ field (codes "event") (hexadecimal (id_of at).0)
     ++ field (codes "sepc") (hexadecimal saved.sepc) ++ field (codes "flags") (decimal saved.flags)
-    ++ field (codes "a6") (hexadecimal saved.a6) ++ field (codes "a7") (hexadecimal saved.a7)
+    ++ field (codes "a6") (hexadecimal saved.a6) ++ field (codes "a7") (hexadecimal saved.a7))
 
 -- these handlers from the oldest on, numbered from here
 abbrev pub told_lines : ℕ → ℕ → List (Instance × Saved) → List (List ℕ)
@@ -41,3 +41,8 @@ told_bank bank d asking copies phase =
 abbrev pub told_records : ℕ → ℕ → List RecordCopy → List (List ℕ)
 told_records bank rec [] = []
 told_records bank rec (copy ∷ copies) = record_line bank rec copy ∷ told_records bank (rec + 1) copies
+
+-- a bank by its registers, the copies in its slot, and the phase of its drain
+abbrev pub told_bank_lines : ℕ → BankDecl → BankView → List RecordCopy → Option (Phase × ℕ) → List (List ℕ)
+told_bank_lines number d bank copies phase =
+    (told_bank number d bank.asks copies phase ∷ told_records number 0 bank.copies) ++ block_lines number copies

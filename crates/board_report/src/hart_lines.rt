@@ -46,7 +46,7 @@ pub(crate) fn put_hart<K: Sink>(
 #[tactic(auto, unfolding(crate::specs::Told::told_line))]
 pub(crate) fn put_frame<K: Sink>(
     line: &mut Line<'_, K>,
-    hart: u64,
+    hart: u8,
     number: u64,
     at: Instance,
     saved: &Saved,
@@ -58,7 +58,7 @@ pub(crate) fn put_frame<K: Sink>(
     ensures same_sink { SameSink line.new line.old }
 {
     put_word(line, b"frame ");
-    put_dec(line, hart);
+    put_dec(line, u64::from(hart));
     put_word(line, b" ");
     put_dec(line, number);
     put_hex_field(line, b"event", u64::from(at.id().0));

@@ -6,4 +6,5 @@ mod fields;
 mod hart_lines;
 mod pages;
 mod run_lines;
+mod walks;
 mod writes;

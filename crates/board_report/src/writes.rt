@@ -69,7 +69,7 @@ pub(crate) fn write_hart<K: Sink>(
 /// A handler that runs, by its number from the oldest, 1 and up.
 pub(crate) fn write_frame<K: Sink>(
     pages: &mut Pages<'_, K>,
-    hart: u64,
+    hart: u8,
     number: u64,
     at: Instance,
     saved: &Saved,
