@@ -1,5 +1,5 @@
 -- The lines of a report, one after another: each walk over a list with one more of its items.
-use Rattle.std.proofs.Common.{◌≡◌, ℕ, zero, suc, ◌+◌, ◌-◌, ◌≤◌, get_or, ◌*◌, ◌<◌, ◌==◌, Bool, true, false, cond, List, [], ◌∷◌, ◌++◌, map, length, take, drop, Some, Option, refl, sym, ap, ◌∙◌, subst, append_assoc, append-nil, length-append, arith, slice_get, slice_index_or}
+use Rattle.std.proofs.Common.{◌≡◌, ℕ, zero, suc, ◌+◌, ◌-◌, ◌≤◌, get_or, ◌*◌, ◌<◌, ◌==◌, Bool, true, false, cond, List, [], ◌∷◌, ◌++◌, map, length, take, drop, Some, Ok, Err, Result, Option, refl, sym, ap, ◌∙◌, subst, append_assoc, append-nil, length-append, arith, slice_get, slice_index_or}
 use Rattle.std.proofs.lemmas.List.{take_all}
 use Rattle.std.specs.List.{range_with_len}
 use Rattle.sse_base.specs.declared.ids.Instance.{Instance}
@@ -8,9 +8,12 @@ use Rattle.hart_ctx.specs.declared.regs.Saved.{Saved}
 use Rattle.hart_ctx.specs.Running.{told_by, running_in}
 use Rattle.sse_base.specs.declared.events.Slot.{Slot}
 use Rattle.reri_fields.specs.declared.report.RecordCopy.{RecordCopy}
-use Rattle.board_plan.specs.Text.{frame_line, frame_lines, event_line, record_line, word_line, word_lines}
-use Rattle.board_report.specs.Told.{told_line, told_lines, told_records}
-use Rattle.board_report.specs.Writing.{State, Grows}
+use Rattle.board_plan.specs.declared.notes.Step.{Step}
+use Rattle.board_plan.specs.declared.notes.StepNote.{StepNote}
+use Rattle.board_plan.specs.Text.{frame_line, frame_lines, event_line, record_line, trace_line, word_line, word_lines}
+use Rattle.board_report.specs.Told.{told_line, told_lines, told_records, told_steps}
+use Rattle.ras_io.specs.declared.faults.SinkFault.{SinkFault}
+use Rattle.board_report.specs.Writing.{State, Grows, Wrote}
 use Rattle.board_report.proofs.Growing.{grows-then}
 
 -- some lines and then others, under another name
@@ -119,3 +122,39 @@ numbered-next f k =
     let next : k + 1 ≡ suc k = omega arith in
     let place : 0 + k ≡ k = omega arith in
     ap (λ (i : ℕ). map f (range_with_len 0 i)) next ∙ range-next f 0 k ∙ ap (λ (i : ℕ). map f (range_with_len 0 k) ++ f i ∷ []) place
+
+-- ---- Steps ----
+
+-- one step more
+pub steps-next : (n k m : ℕ) (ts : List Step) (ns : List StepNote) (by : Step) (note : StepNote) → m ≡ n + k
+    → slice_get ts k ≡ Some by → slice_get ns k ≡ Some note
+    → told_steps n (take (k + 1) ts) (take (k + 1) ns) ≡ told_steps n (take k ts) (take k ns) ++ trace_line m (record { by = by; note = note }) ∷ []
+steps-next n k m [] ns by note i e f = cc
+steps-next n k m (t ∷ ts) [] by note i e f = cc
+steps-next n zero m (t ∷ ts) (x ∷ ns) by note i e f =
+    let same_step : t ≡ by = cc in
+    let same_note : x ≡ note = cc in
+    let place : n ≡ m = omega (arith, i) in
+    ap (λ (y : Step). trace_line n (record { by = y; note = x }) ∷ []) same_step
+    ∙ ap (λ (y : StepNote). trace_line n (record { by = by; note = y }) ∷ []) same_note
+    ∙ ap (λ (j : ℕ). trace_line j (record { by = by; note = note }) ∷ []) place
+steps-next n (suc k) m (t ∷ ts) (x ∷ ns) by note i e f =
+    let next : suc k + 1 ≡ suc (k + 1) = omega arith in
+    rw next (ap (λ ls. trace_line n (record { by = t; note = x }) ∷ ls) (steps-next (n + 1) k m ts ns by note (omega (arith, i)) e f))
+
+pub steps-all : (k : ℕ) (ts : List Step) (ns : List StepNote) → length ts ≤ k → length ns ≡ length ts
+    → told_steps 1 (take k ts) (take k ns) ≡ told_steps 1 ts ns
+steps-all k ts ns e f =
+    ap (λ (us : List Step). told_steps 1 us (take k ns)) (take_all k ts e)
+    ∙ ap (λ (xs : List StepNote). told_steps 1 ts xs) (take_all k ns (omega (arith, e, f)))
+
+-- ---- At the end ----
+
+-- lines of pages that had not failed went out, or a front of them
+pub wrote-of : (a b : State) (ls : List (List ℕ)) → a.outcome ≡ Ok tt → Grows a b ls → Wrote a b ls
+wrote-of a b ls e p = go a.written a.faults a.writes a.outcome e p
+  where
+    go : (w : Option (List ℕ)) (f n : ℕ) (o : Result (Unit {0}) SinkFault) → o ≡ Ok tt
+        → Grows (record { written = w; faults = f; writes = n; outcome = o }) b ls → Wrote (record { written = w; faults = f; writes = n; outcome = o }) b ls
+    go w f n (Ok u) e p = p.all
+    go w f n (Err x) e p = cc

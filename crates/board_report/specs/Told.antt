@@ -1,6 +1,6 @@
 -- The lines of a report by what is told of a board, and not by the states that it stands for. No public clause cites
 -- this.
-use Rattle.std.specs.Prelude.{ℕ, ◌+◌, Bool, true, false, List, [], ◌∷◌, ◌++◌, map, length, Option, Some, None, codes, decimal}
+use Rattle.std.specs.Prelude.{◌≡◌, ℕ, ◌+◌, Bool, true, false, List, [], ◌∷◌, ◌++◌, map, length, slice_get, IsTrue, Option, Some, None, codes, decimal}
 use Rattle.std.specs.List.{range_with_len}
 use Rattle.ras_text.specs.Numbers.{hexadecimal}
 use Rattle.sse_base.specs.declared.ids.Instance.{Instance}
@@ -10,8 +10,11 @@ use Rattle.reri_fields.specs.declared.report.RecordCopy.{RecordCopy}
 use Rattle.reri_fields.specs.declared.drain.Phase.{Phase}
 use Rattle.reri_fields.specs.Banks.{BankView}
 use Rattle.reri_fields.specs.Drain.{Draining}
+use Rattle.board_plan.specs.declared.notes.Step.{Step}
+use Rattle.board_plan.specs.declared.notes.StepNote.{StepNote}
 use Rattle.board_plan.specs.declared.plan.BankDecl.{BankDecl}
-use Rattle.board_plan.specs.Text.{field, bit_text, scope_text, slot_text, phase_text, drain_text, record_line, block_lines}
+use Rattle.board_plan.specs.Notes.{has_text}
+use Rattle.board_plan.specs.Text.{field, bit_text, scope_text, slot_text, phase_text, drain_text, record_line, block_lines, trace_line}
 
 -- a handler that runs, by its INTERRUPTED attributes
 unfoldable pub told_line : ℕ → ℕ → Instance → Saved → List ℕ
@@ -46,3 +49,13 @@ told_records bank rec (copy ∷ copies) = record_line bank rec copy ∷ told_rec
 abbrev pub told_bank_lines : ℕ → BankDecl → BankView → List RecordCopy → Option (Phase × ℕ) → List (List ℕ)
 told_bank_lines number d bank copies phase =
     (told_bank number d bank.asks copies phase ∷ told_records number 0 bank.copies) ++ block_lines number copies
+
+-- each note has a text
+abbrev pub HaveTexts : List StepNote → Type 0
+HaveTexts notes = (i : ℕ) (note : StepNote) → slice_get notes i ≡ Some note → IsTrue (has_text note)
+
+-- steps and their notes, side by side, as lines of a trace numbered from here
+abbrev pub told_steps : ℕ → List Step → List StepNote → List (List ℕ)
+told_steps number (by ∷ steps) (note ∷ notes) =
+    trace_line number (record { by = by; note = note }) ∷ told_steps (number + 1) steps notes
+told_steps number steps notes = []

@@ -6,5 +6,8 @@ mod fields;
 mod hart_lines;
 mod pages;
 mod run_lines;
+mod run_texts;
 mod walks;
 mod writes;
+
+pub use run_texts::{write_short, write_trace};

@@ -14,15 +14,15 @@ ghost use Rattle.board_plan.specs.Text.{
   entries_of_line,
   schedule_lines,
 };
-ghost use Rattle.board_report.specs.Told.{told_bank_lines, told_records};
+ghost use Rattle.board_report.specs.Told.{HaveTexts, told_bank_lines, told_records, told_steps};
 ghost use Rattle.board_report.specs.Writing.{Adds, SamePages};
 
 use crate::pages::Pages;
 use crate::writes::{
     write_bank, write_block, write_entries, write_event, write_frame, write_hart, write_registers,
-    write_word,
+    write_step, write_word,
 };
-use board_plan::{BankDecl, Counts, Step};
+use board_plan::{BankDecl, Counts, Step, StepNote};
 use ghes_block::Slot;
 use ras_io::Sink;
 use reri_bank::Bank;
@@ -206,5 +206,19 @@ pub(crate) fn write_schedule<K: Sink>(pages: &mut Pages<'_, K>, steps: &[Step])
     let lines = ((steps.len() + 15) / ENTRIES).max(1);
     for k in 0..lines {
         write_entries(pages, entries_of(steps, k));
+    }
+}
+
+/// The steps that were made with their notes, as lines of a trace.
+pub(crate) fn write_steps<K: Sink>(pages: &mut Pages<'_, K>, steps: &[Step], notes: &[StepNote])
+    requires empty { text_of pages.old.line ≡ [] }
+    requires notes { length notes.now ≡ length steps.now }
+    requires texts { HaveTexts notes.now }
+    ensures empty { text_of pages.new.line ≡ [] }
+    ensures wrote { Adds K.written K.faults K.writes pages.old pages.new (told_steps 1 steps.now notes.now) }
+    ensures same_pages { SamePages pages.new pages.old }
+{
+    for i in 0..steps.len() {
+        write_step(pages, i as u64 + 1, steps[i], &notes[i]);
     }
 }
