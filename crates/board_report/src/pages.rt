@@ -1,7 +1,7 @@
 //! Lines on their way to a sink: nothing more is written once a write has failed.
 
 ghost use Rattle.std.specs.Prelude.{◌≡◌, ◌≤◌, [], ◌∷◌, length, Ok};
-ghost use Rattle.ras_text.specs.Lines.{text_of, sink_of, Borrows};
+ghost use Rattle.ras_text.specs.Lines.{text_of};
 ghost use Rattle.board_report.specs.Writing.{Adds, SamePages};
 
 use ras_io::{Sink, SinkFault};
@@ -17,19 +17,6 @@ pub(crate) struct Pages<'a, K: Sink> {
 }
 
 impl<'a, K: Sink> Pages<'a, K> {
-    /// Pages that go to `sink`, of which nothing was written yet.
-    pub(crate) fn new(sink: &'a mut K) -> Pages<'a, K>
-        ensures empty { text_of result.line ≡ [] }
-        ensures sink { sink_of result.line ≡ sink.old }
-        ensures going { result.outcome ≡ Ok tt }
-        ensures same_reference { Borrows result.line sink.entry }
-    {
-        Pages {
-            line: Line::new(sink),
-            outcome: Ok(()),
-        }
-    }
-
     /// Ends the line under way, and writes it. No write has failed before.
     pub(crate) fn end(&mut self)
         requires going { self.old.outcome ≡ Ok tt }

@@ -12,6 +12,7 @@ use crate::walks::write_steps;
 use crate::writes::{write_end, write_fates, write_head};
 use board_plan::{Fates, Plan, Step, StepNote};
 use ras_io::{Sink, SinkFault};
+use ras_text::Line;
 
 /// The lines of a short report, on pages of which no write has failed.
 fn put_short<K: Sink>(pages: &mut Pages<'_, K>, plan: &Plan, steps: u64, fates: &Fates)
@@ -57,7 +58,10 @@ pub fn write_short<K: Sink>(
     ensures cause { HasCause (K.faults sink.old) (K.faults sink.new) result }
     ensures writes { OnOk result (K.writes sink.new ≡ many (K.writes sink.old) 3) }
 {
-    let mut pages = Pages::new(sink);
+    let mut pages = Pages {
+        line: Line::new(sink),
+        outcome: Ok(()),
+    };
     put_short(&mut pages, plan, steps, fates);
     pages.outcome
 }
@@ -75,7 +79,10 @@ pub fn write_trace<K: Sink>(
     ensures cause { HasCause (K.faults sink.old) (K.faults sink.new) result }
     ensures writes { OnOk result (K.writes sink.new ≡ many (K.writes sink.old) (length (told_steps 1 steps.now notes.now))) }
 {
-    let mut pages = Pages::new(sink);
+    let mut pages = Pages {
+        line: Line::new(sink),
+        outcome: Ok(()),
+    };
     put_trace(&mut pages, steps, notes);
     pages.outcome
 }
