@@ -1,2 +1,4 @@
-pub mod Banks
+pub mod AtBanks
+pub mod AtHarts
+pub mod AtReporters
 pub mod Searching

@@ -1,6 +1,7 @@
 -- When the parts of a board are those of a plan in a state. This project's own, over the board book.
-use Rattle.std.specs.Prelude.{◌≡◌, ℕ, List, map, slice_get, length, Some}
+use Rattle.std.specs.Prelude.{◌≡◌, ℕ, suc, List, map, slice_get, length, Some}
 use Rattle.std.specs.List.{range_with_len}
+use Rattle.reri_fields.specs.Banks.{AllLogsBefore}
 use Rattle.reri_fields.specs.Drain.{BankState}
 use Rattle.board_plan.specs.declared.plan.BankDecl.{BankDecl}
 use Rattle.board_plan.specs.declared.plan.Plan.{Plan}
@@ -34,3 +35,7 @@ pub record Shows (plan : Plan) (s : BoardState) (p : Parts) : Type 0 where
   pub counts : p.counts.items ≡ s.counts
   pub limits_are : p.limits.items ≡ limits plan
   pub reporters : p.reporters.items ≡ s.reporters
+
+-- each error that came to a bank came at a step that was made before
+abbrev pub AreEarly : BoardState → Type 0
+AreEarly s = (i : ℕ) (x : BankState) → slice_get s.banks i ≡ Some x → AllLogsBefore (suc s.steps) x.history

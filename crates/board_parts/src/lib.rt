@@ -2,12 +2,15 @@
 //! reporters on them.
 #![tactic(auto)]
 
+mod banks;
 mod counting;
+mod harts;
+mod looks;
 mod outcome;
 mod parts;
 mod progress;
+mod reporters;
 mod signals;
-mod steps;
 
 pub use outcome::Outcome;
 pub use parts::Parts;

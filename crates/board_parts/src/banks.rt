@@ -1,22 +1,19 @@
-//! The steps of harts and reporters.
+//! The steps of banks.
 
 ghost use Rattle.std.specs.Prelude.{◌≡◌, ◌<◌, length, ℕ, slice_get, Some, None, IfSome, unwrap_or, option_map};
-ghost use Rattle.sse_base.specs.Contexts.{Stack};
 ghost use Rattle.reri_fields.specs.Drain.{BankState};
 ghost use Rattle.reri_fields.specs.Drain.BankTry.{Reports, Drains, Acknowledges};
 ghost use Rattle.reri_fields.specs.Banks.{AllLogsBefore};
 ghost use Rattle.board_plan.specs.declared.plan.Plan.{Plan};
 ghost use Rattle.board_plan.specs.State.{BoardState};
-ghost use Rattle.board_plan.specs.Step.{allowed, at_bank, bank_due, board_reach, first_bank, hart_step, is_draining, is_waiting, on_act, on_error, on_raise, own_step, passes, reporter_step};
+ghost use Rattle.board_plan.specs.Step.{at_bank, bank_due, first_bank, is_draining, is_waiting, passes};
 ghost use Rattle.board_parts.specs.Shows.{Shows};
-ghost use Rattle.board_parts.specs.Came.{Acts, Steps, Takes};
+ghost use Rattle.board_parts.specs.Came.{Takes};
 
 use crate::outcome::{Outcome, quiet};
 use crate::parts::Parts;
-use crate::signals::{drawn, raise};
-use board_ops::{is_illegal, pass, step};
-use board_plan::{Op, StepNote};
-use ras_device::Act;
+use crate::signals::drawn;
+use board_plan::StepNote;
 use reri_fields::Report;
 
 impl Parts {
@@ -73,7 +70,7 @@ impl Parts {
     }
 
     /// The bank that a hart drains next.
-    fn due(&self, hart: u8) -> Option<u8>
+    pub(crate) fn due(&self, hart: u8) -> Option<u8>
         ensures which { (plan : Plan) (s : BoardState) → Shows plan s self.now → bank_due hart plan s.banks ≡ result }
         ensures there { IfSome result (λ at. at < length self.now.banks.items) }
     {
@@ -86,9 +83,9 @@ impl Parts {
     // ---- What is done at a bank ----
 
     /// Takes the next phase of a bank's drain. None where no drain is due.
-    fn drain(&mut self, bank: u8) -> Option<Outcome>
+    pub(crate) fn drain(&mut self, bank: u8) -> Option<Outcome>
         requires { bank < length self.old.banks.items }
-        ensures { (plan : Plan) (s : BoardState) → Shows plan s self.old
+        ensures takes { (plan : Plan) (s : BoardState) → Shows plan s self.old
             → Takes plan s (at_bank bank Drains plan s.machine.events s.banks) self.new result }
         ensures harts { self.new.firmware.events.harts ≡ self.old.firmware.events.harts }
     {
@@ -101,8 +98,8 @@ impl Parts {
     }
 
     /// Acknowledges a bank's block. None where the board hasn't the bank.
-    fn acknowledge(&mut self, bank: u8) -> Option<Outcome>
-        ensures { (plan : Plan) (s : BoardState) → Shows plan s self.old
+    pub(crate) fn acknowledge(&mut self, bank: u8) -> Option<Outcome>
+        ensures takes { (plan : Plan) (s : BoardState) → Shows plan s self.old
             → Takes plan s (at_bank bank Acknowledges plan s.machine.events s.banks) self.new result }
         ensures harts { self.new.firmware.events.harts ≡ self.old.firmware.events.harts }
     {
@@ -118,9 +115,9 @@ impl Parts {
     }
 
     /// Reports an error to its bank. None where the board hasn't the bank.
-    fn report(&mut self, report: &Report) -> Option<Outcome>
+    pub(crate) fn report(&mut self, report: &Report) -> Option<Outcome>
         requires { report.now.priority < 4 }
-        ensures { (plan : Plan) (s : BoardState) (n : ℕ) → Shows plan s self.old
+        ensures takes { (plan : Plan) (s : BoardState) (n : ℕ) → Shows plan s self.old
             → ((i : ℕ) (x : BankState) → slice_get s.banks i ≡ Some x → AllLogsBefore n x.history)
             → Takes plan s (at_bank report.now.bank (Reports (record { step = n; report = report.now })) plan s.machine.events s.banks) self.new result }
         ensures harts { self.new.firmware.events.harts ≡ self.old.firmware.events.harts }

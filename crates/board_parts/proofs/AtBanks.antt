@@ -63,7 +63,7 @@ drains_is plan s p h at d b shows decl here =
 pub waits_is : (plan : Plan) (s : BoardState) (p : Parts) (h at : ℕ) (d : BankDecl) (b : BankParts) → Shows plan s p
     → slice_get p.decls.items at ≡ Some d → slice_get p.banks.items at ≡ Some b
     → passes (is_waiting h plan at) (slice_get plan.banks at) (slice_get s.banks at)
-      ≡ ((d.home == h) && (b.bank.asks && is_free b.slot))
+    ≡ ((d.home == h) && (b.bank.asks && is_free b.slot))
 waits_is plan s p h at d b shows decl here =
     let is = bank_is plan s p at b shows here in
     let same : is.decl ≡ d = same_Some is.decl d (sym is.declared ∙ decl) in
@@ -153,7 +153,7 @@ pub taken : (plan : Plan) (s : BoardState) (p q : Parts) (at : ℕ) (d : BankDec
     (note : BankNote) (came : Outcome) → Shows plan s p → slice_get p.decls.items at ≡ Some d
     → slice_get p.banks.items at ≡ Some b
     → ((x : BankState) → StandsFor (bank_plan at d plan.recs) x b → slice_get s.banks at ≡ Some x
-      → Makes (bank_plan at d plan.recs) x t note c)
+    → Makes (bank_plan at d plan.recs) x t note c)
     → Rests p q → q.banks.items ≡ set p.banks.items at c
     → q.firmware ≡ record p.firmware { events = events_after d p.firmware.events note }
     → came ≡ outcome_of (bank_note at d p.firmware.events note) (published_by at note)
@@ -167,7 +167,7 @@ taken plan s p q at d b c t note came shows decl here makes rests banks firmware
     let y : BankStep = record { state = made.state; note = note } in
     let e = bank_effect at d s.machine.events s.banks y in
     let made_is : at_bank at t plan s.machine.events s.banks ≡ Some e =
-        at_is at t plan s.machine.events s.banks d is.state y known is.there made.step in
+    at_is at t plan s.machine.events s.banks d is.state y known is.there made.step in
     let after = banks_after plan s.banks p.banks.items at d made.state c shows.banks (slice_get_within p.banks.items at b here) known made.stands_for in
     subst (λ o. Takes plan s o q (Some came)) (sym made_is)
     (record {
@@ -194,3 +194,7 @@ no_bank plan s p at t shows past =
     subst (λ o. Takes plan s o p None)
     (sym (at_nowhere at t plan s.machine.events s.banks (slice_get_past plan.banks at (omega (arith, shows.banks.there)))))
     (record { outcome = refl; shows = shows })
+
+pub stays_idle : (plan : Plan) (s : BoardState) (q : Parts) (o : Option Effect) → o ≡ None → Shows plan s q
+    → Takes plan s o q None
+stays_idle plan s q o is shows = subst (λ e. Takes plan s e q None) (sym is) (record { outcome = refl; shows = shows })

@@ -1,1 +1,0 @@
-//! The parts of a board before its first step.
