@@ -1,11 +1,10 @@
 -- What a bank among the parts says of the bank's state, and what a step of it makes of the board.
-use Rattle.std.proofs.Common.{◌≡◌, ℕ, ◌<◌, ◌≤◌, ◌==◌, ◌&&◌, Bool, true, false, List, length, set, slice_get, Option, Some, None, is_some, refl, inl, inr, sym, ap, ◌∙◌, subst, arith}
+use Rattle.std.proofs.Common.{◌≡◌, ℕ, ◌<◌, ◌≤◌, ◌==◌, ◌&&◌, Bool, List, length, set, slice_get, Option, Some, None, is_some, refl, inl, inr, sym, ap, ◌∙◌, subst, arith}
 use Rattle.std.specs.Option.{option_map}
 use Rattle.std.proofs.lemmas.Bool.{cases_eq}
 use Rattle.std.proofs.lemmas.List.{length-set}
 use Rattle.std.proofs.lemmas.Option.{same_Some, slice_get_within, slice_get_past}
 use Rattle.reri_fields.specs.Drain.{BankState, BankStep, BankTry, BankNote, bank_step, is_free, may_begin}
-use Rattle.reri_fields.specs.Banks.{asks}
 use Rattle.reri_bank.proofs.Stands.{get_there, get-set_same, get-set_other}
 use Rattle.sse_base.specs.Events.{Events}
 use Rattle.sse_base.specs.Machine.{Machine}
@@ -18,7 +17,7 @@ use Rattle.board_bank.specs.Standing.{BankParts, StandsFor, Makes}
 use Rattle.board_parts.specs.declared.outcome.Outcome.{Outcome}
 use Rattle.board_parts.specs.declared.parts.Parts.{Parts}
 use Rattle.board_parts.specs.Shows.{AreBanks, Shows}
-use Rattle.board_parts.specs.Came.{Gives, Takes, outcome_of, after_effect, with_effect_on}
+use Rattle.board_parts.specs.Came.{Takes, outcome_of, with_effect_on}
 
 -- ---- A bank that is there ----
 

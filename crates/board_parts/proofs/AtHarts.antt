@@ -1,5 +1,5 @@
 -- What the parts of a hart's step make of the board.
-use Rattle.std.proofs.Common.{◌≡◌, ◌≢◌, ℕ, suc, ◌<◌, ◌≤◌, ◌&&◌, Bool, true, false, cond, List, length, get_or, set, slice_get, Option, Some, None, nat_lt, refl, sym, ap, ◌∙◌, subst, arith}
+use Rattle.std.proofs.Common.{◌≡◌, ℕ, suc, ◌<◌, ◌≤◌, ◌&&◌, Bool, true, false, cond, List, length, get_or, set, slice_get, Option, Some, None, nat_lt, refl, sym, ap, ◌∙◌, subst, arith}
 use Rattle.std.specs.Option.{option_map}
 use Rattle.std.specs.Prelude.{unwrap_or}
 use Rattle.std.proofs.lemmas.Bool.{cond-true, cond-false}
@@ -11,12 +11,10 @@ use Rattle.reri_bank.proofs.Stands.{get_there}
 use Rattle.board_plan.specs.declared.notes.Counts.{Counts}
 use Rattle.sse_base.specs.declared.ids.Instance.{Instance}
 use Rattle.sse_base.specs.Ids.{id_of}
-use Rattle.sse_base.specs.Events.{Events}
 use Rattle.sse_base.specs.Contexts.{Stack, fresh_stack}
 use Rattle.sse_base.specs.Machine.{Machine, Reach, reach, placed}
 use Rattle.sse_base.specs.Choice.{next_for}
 use Rattle.sse_base.specs.Calls.{delivered}
-use Rattle.reri_fields.specs.Drain.{BankState}
 use Rattle.reri_fields.specs.Drain.BankTry.{Drains, Acknowledges}
 use Rattle.board_plan.specs.declared.notes.StepNote.{StepNote}
 use Rattle.board_plan.specs.declared.notes.StepNote.TheVariants as note
@@ -25,14 +23,14 @@ use Rattle.board_plan.specs.declared.ops.Op.TheVariants as ops
 use Rattle.board_plan.specs.declared.plan.Plan.{Plan}
 use Rattle.board_plan.specs.State.{BoardState, ReporterState, budget_of, counts_of, no_counts}
 use Rattle.board_plan.specs.Ops.{Done, done, past, is_user, needs_supervisor, op_at}
-use Rattle.board_plan.specs.Step.{BoardReach, Effect, Made, Stepped, acknowledge, after_hart, allowed, apply, at_bank, bank_due, board_reach, counted, hart_step, on_chosen, on_due, on_own, own_step, quietly, step_of, unplugged, with_effect}
+use Rattle.board_plan.specs.Step.{BoardReach, Effect, Made, after_hart, allowed, apply, at_bank, bank_due, board_reach, counted, hart_step, on_chosen, on_due, on_own, own_step, quietly, step_of, unplugged, with_effect}
 use Rattle.board_ops.specs.Own as own
 use Rattle.board_ops.specs.Executed.{Executes}
 use Rattle.board_ops.specs.Indexes.{Indexes}
 use Rattle.board_parts.specs.declared.outcome.Outcome.{Outcome}
 use Rattle.board_parts.specs.declared.parts.Parts.{Parts}
 use Rattle.board_parts.specs.Shows.{AreBanks, Shows}
-use Rattle.board_parts.specs.Came.{Gives, Takes, Acts, Steps, outcome_of, after_effect, with_effect_on, reached, was_plugged, without_plug, is_plugged, unplug_in}
+use Rattle.board_parts.specs.Came.{Takes, Acts, Steps, outcome_of, reached, was_plugged, without_plug, is_plugged, unplug_in}
 use Rattle.board_parts.proofs.AtBanks.{Rests}
 
 -- ---- A hart's reach ----

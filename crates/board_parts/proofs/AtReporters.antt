@@ -1,5 +1,5 @@
 -- What the parts of a reporter's step make of the board.
-use Rattle.std.proofs.Common.{◌≡◌, ℕ, suc, ◌<◌, ◌≤◌, ◌&&◌, nat_lt, Bool, true, false, List, length, get_or, set, slice_get, Option, Some, None, refl, sym, ap, ◌∙◌, subst, arith}
+use Rattle.std.proofs.Common.{◌≡◌, ℕ, suc, ◌<◌, ◌≤◌, ◌&&◌, nat_lt, true, false, List, length, get_or, set, slice_get, Option, Some, None, refl, sym, ap, ◌∙◌, subst, arith}
 use Rattle.std.specs.Option.{option_map}
 use Rattle.std.specs.Prelude.{unwrap_or}
 use Rattle.std.proofs.lemmas.Bool.{cond-true, cond-false}
@@ -18,14 +18,14 @@ use Rattle.board_ops.specs.Indexes.{Indexes}
 use Rattle.board_parts.specs.declared.outcome.Outcome.{Outcome}
 use Rattle.board_parts.specs.declared.parts.Parts.{Parts}
 use Rattle.board_parts.specs.Shows.{AreBanks, Shows}
-use Rattle.board_parts.specs.Came.{Gives, Takes, Steps, outcome_of, with_act_counted, with_effect_on}
+use Rattle.board_parts.specs.Came.{Takes, Steps, outcome_of, with_act_counted, with_effect_on}
 
 -- ---- An error ----
 
 error_of : (plan : Plan) (s : BoardState) (q : Parts) (report : Report) (o : Option Effect) (came : Option Outcome)
     → Takes plan s o q came
     → Takes plan s (Some (unwrap_or o (record { events = s.machine.events; banks = s.banks; note = note.Error report None; published = None }))) q
-      (Some (unwrap_or came (outcome_of (note.Error report None) None)))
+    (Some (unwrap_or came (outcome_of (note.Error report None) None)))
 error_of plan s q report None came takes =
     record { outcome = ap (λ c. Some (unwrap_or c (outcome_of (note.Error report None) None))) takes.outcome; shows = takes.shows }
 error_of plan s q report (Some e) came takes =
@@ -50,9 +50,9 @@ pub no_reporter : (plan : Plan) (s : BoardState) (p : Parts) (r : ℕ) → Shows
 unfolding wants
 no_reporter plan s p r shows past =
     let none : slice_get plan.reporters r ≡ None =
-        slice_get_past plan.reporters r (omega (arith, p.limited, reporters_many plan s p shows)) in
+    slice_get_past plan.reporters r (omega (arith, p.limited, reporters_many plan s p shows)) in
     let nowhere : slice_get s.reporters r ≡ None =
-        slice_get_past s.reporters r (omega (arith, ap (λ (xs : List ReporterState). length xs) shows.reporters)) in
+    slice_get_past s.reporters r (omega (arith, ap (λ (xs : List ReporterState). length xs) shows.reporters)) in
     ap (λ (o : Option plan_reporter.Reporter). is_wanted o (slice_get s.reporters r)) none ∙ ap (is_wanted None) nowhere
 
 reporter_is : (plan : Plan) (s : BoardState) (p : Parts) (r : ℕ) (x : ReporterState) → Shows plan s p
@@ -68,10 +68,10 @@ unfolding wants
 reporter_wanted plan s p r x y shows low read limit =
     let d = get_there plan.reporters r (omega (arith, p.limited, reporters_many plan s p shows)) in
     let is : Some y ≡ Some d.0.limit =
-        sym (slice_get_read p.limits.items (length p.limits.items) r y refl (omega (arith, p.limited)) limit)
-        ∙ ap (λ (ls : List ℕ). slice_get ls r) shows.limits_are
-        ∙ slice_get-map (λ (d : plan_reporter.Reporter). d.limit) plan.reporters r
-        ∙ ap (option_map (λ (d : plan_reporter.Reporter). d.limit)) d.1 in
+    sym (slice_get_read p.limits.items (length p.limits.items) r y refl (omega (arith, p.limited)) limit)
+    ∙ ap (λ (ls : List ℕ). slice_get ls r) shows.limits_are
+    ∙ slice_get-map (λ (d : plan_reporter.Reporter). d.limit) plan.reporters r
+    ∙ ap (option_map (λ (d : plan_reporter.Reporter). d.limit)) d.1 in
     ap (λ (o : Option plan_reporter.Reporter). is_wanted o (slice_get s.reporters r)) d.1
     ∙ ap (is_wanted (Some d.0)) (reporter_is plan s p r x shows low read)
     ∙ ap (λ l. x.plugged && nat_lt x.made l) (sym (same_Some y d.0.limit is))
@@ -108,8 +108,8 @@ pub unwanted : (plan : Plan) (s : BoardState) (p : Parts) (r : ℕ) (a : Option 
 unfolding reporter_step
 unwanted plan s p r a next shows is not_wanted =
     let none : reporter_step r plan a s ≡ None =
-        ap (λ b. reporter_step r plan b s) is
-        ∙ cond-false (wants plan r s) (Some (after_reporter r s (on_act plan s next))) None not_wanted in
+    ap (λ b. reporter_step r plan b s) is
+    ∙ cond-false (wants plan r s) (Some (after_reporter r s (on_act plan s next))) None not_wanted in
     subst (λ o. Steps plan s o p None) (sym none) (record { outcome = refl; shows = shows })
 
 with_steps : (plan : Plan) (s : BoardState) (q : Parts) (n : ℕ) → Shows plan s q → Shows plan (record s { steps = n }) q
@@ -132,6 +132,6 @@ unfolding reporter_step
 makes_act plan s q r a next came is wanted takes =
     let e = on_act plan s next in
     let made : reporter_step r plan a s ≡ Some (after_reporter r s e) =
-        ap (λ b. reporter_step r plan b s) is ∙ cond-true (wants plan r s) (Some (after_reporter r s e)) None wanted in
+    ap (λ b. reporter_step r plan b s) is ∙ cond-true (wants plan r s) (Some (after_reporter r s e)) None wanted in
     subst (λ o. Steps plan s o q (Some came)) (sym made)
     (record { outcome = takes.outcome; shows = with_steps plan (with_effect_on (with_act_counted r s true) e) q (suc s.steps) takes.shows })

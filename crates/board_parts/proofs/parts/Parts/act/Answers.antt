@@ -1,5 +1,5 @@
 -- The first that applies.
-use Rattle.std.proofs.Common.{Some, None, refl, sym, ap, ◌∙◌}
+use Rattle.std.proofs.Common.{None, refl, sym, ap, ◌∙◌}
 use Rattle.std.proofs.lemmas.Option.{MatchOption-at_none, MatchOption-at_some}
 use Rattle.sse_base.specs.Machine.{Machine, stack_of}
 use Rattle.sse_base.specs.declared.ids.EventId.{EventId}

@@ -1,6 +1,5 @@
 -- A reporter that is wanted makes one act more.
-use Rattle.std.proofs.Common.{◌≡◌, ◌<◌, length, get_or, set, refl, sym, ap, ◌∙◌, subst, arith}
-use Rattle.board_plan.specs.Step.{one_more}
+use Rattle.std.proofs.Common.{set, refl, sym, ap, ◌∙◌, arith}
 use Rattle.board_parts.proofs.AtReporters.{no_reporter, reporter_wanted, act_counted}
 use Rattle.board_parts.proofs.parts.Parts.count_act.Goals as goal
 

@@ -1,5 +1,5 @@
 -- The drain of a bank takes its next phase.
-use Rattle.std.proofs.Common.{◌≡◌, ◌<◌, length, set, refl, ap, ◌∙◌, arith}
+use Rattle.std.proofs.Common.{length, set, refl, ap, ◌∙◌, arith}
 use Rattle.std.proofs.lemmas.List.{set-get_or}
 use Rattle.std.proofs.lemmas.Option.{slice_get_read, MatchOption-at_none, MatchOption-at_some}
 use Rattle.reri_fields.specs.Drain.BankTry.{Drains}
@@ -22,7 +22,7 @@ returns-in_default-clause-takes c =
     let is = bank_is plan s p at b h here in
     let same = (MatchOption-at_none _ _ c.in_default.is (c.step.ensures (bank_plan at is.decl plan.recs) is.state is.stands)).1 in
     let none = not_taken plan s p at d b Drains h decl here
-        (λ x stands. (MatchOption-at_none _ _ c.in_default.is (c.step.ensures (bank_plan at d plan.recs) x stands)).0) in
+    (λ x stands. (MatchOption-at_none _ _ c.in_default.is (c.step.ensures (bank_plan at d plan.recs) x stands)).0) in
     stays_idle plan s _ (at_bank at Drains plan s.machine.events s.banks) none
     (with_machine plan s p _ s.machine h (record { index = refl; decls = refl; budgets = refl; counts = refl; limits = refl; reporters = refl }) h.machine
     (ap (set p.banks.items at) (same ∙ c.index_mut.ensures.value) ∙ set-get_or p.banks.items at b))

@@ -1,8 +1,7 @@
 -- Of a bank that is there it is told by the bank.
-use Rattle.std.proofs.Common.{◌≡◌, ◌<◌, ◌&&◌, ◌==◌, true, is_some, length, refl, sym, ap, ◌∙◌, arith}
+use Rattle.std.proofs.Common.{◌≡◌, ◌&&◌, ◌==◌, true, is_some, length, refl, sym, ap, ◌∙◌, arith}
 use Rattle.std.proofs.lemmas.Bool.Decides.{nat_tests}
 use Rattle.std.proofs.lemmas.Option.{slice_get_read}
-use Rattle.reri_fields.specs.Drain.{is_free}
 use Rattle.board_parts.proofs.AtBanks.{drains_is}
 use Rattle.board_parts.proofs.parts.Parts.is_draining.Goals as goal
 

@@ -1,6 +1,5 @@
 -- A reporter that is wanted makes its act.
-use Rattle.std.proofs.Common.{true, Some, ap, sym, ◌∙◌, subst}
-use Rattle.board_plan.specs.Step.{wants}
+use Rattle.std.proofs.Common.{true, Some, ap, ◌∙◌, subst}
 use Rattle.board_parts.specs.Shows.{Shows}
 use Rattle.board_parts.specs.Came.{with_act_counted}
 use Rattle.ras_device.specs.declared.act.Act.TheVariants as act

@@ -1,5 +1,5 @@
 -- The first bank that passes.
-use Rattle.std.proofs.Common.{◌<◌, length, sym, ◌∙◌, arith}
+use Rattle.std.proofs.Common.{length, sym, ◌∙◌, arith}
 use Rattle.board_plan.specs.Step.{is_waiting}
 use Rattle.board_parts.proofs.Searching.{first_is, nowhere}
 use Rattle.board_parts.proofs.parts.Parts.waiting.Goals as goal

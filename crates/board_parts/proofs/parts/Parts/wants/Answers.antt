@@ -1,5 +1,5 @@
 -- A reporter that is there says whether it is wanted.
-use Rattle.std.proofs.Common.{◌<◌, length, sym, ◌∙◌, arith}
+use Rattle.std.proofs.Common.{sym, ◌∙◌, arith}
 use Rattle.board_parts.proofs.AtReporters.{no_reporter, reporter_wanted}
 use Rattle.board_parts.proofs.parts.Parts.wants.Goals as goal
 
