@@ -4,7 +4,7 @@ ghost use Rattle.std.specs.Prelude.{◌≡◌, ◌<◌, ◌≤◌, ◌+◌, leng
 ghost use Rattle.sse_base.specs.Arrows.{arrow};
 ghost use Rattle.sse_base.specs.Codes.{is_success};
 ghost use Rattle.sse_base.specs.Ids.{place};
-ghost use Rattle.sse_base.specs.Events.{IsOnBoard, change, event, moved, start_events, slots, signal, set_running, set_completed, is_enabled, is_running};
+ghost use Rattle.sse_base.specs.Events.{IsOnBoard, is_on_board, change, event, moved, start_events, slots, signal, set_running, set_completed, is_enabled, is_running};
 ghost use Rattle.sse_base.specs.Calls.{find_instance, take_next, with_handler, register, unregister, enable, disable, attribute, check_write, some_word, is_refused_value, with_attributes};
 
 use crate::instances::{instance_of, place};
@@ -126,6 +126,13 @@ impl Table {
         } else {
             Err(SbiCode::NotSupported)
         }
+    }
+
+    /// Whether the board has an instance.
+    pub fn has(&self, at: Instance) -> bool
+        ensures { result ≡ is_on_board at self.now }
+    {
+        place(&self.instances, at) < self.instances.len()
     }
 
     /// How many instances the board has.

@@ -1,0 +1,4 @@
+pub mod AtBanks
+pub mod AtHarts
+pub mod AtReporters
+pub mod Searching

@@ -1,0 +1,3 @@
+-- The parts of a board, and the states that they are of.
+pub mod Came
+pub mod Shows
