@@ -21,15 +21,15 @@ unfolding block_status has_worst is_worst is_corrected is_uncorrected are_severa
     copy_of
 corrected_alone = refl
 
--- two contained uncorrected copies: several of them, and recoverable
-two_contained : block_status (copy_of 0x85 ∷ copy_of 0x85 ∷ []) ≡ 0x25
+-- two copies of deferred errors: several of them, and recoverable
+two_deferred : block_status (copy_of 0x85 ∷ copy_of 0x85 ∷ []) ≡ 0x25
 unfolding block_status has_worst is_worst is_corrected is_uncorrected are_several greatest status_fields flag bits
     copy_of
-two_contained = refl
+two_deferred = refl
 
-contained_severity : error_severity (copy_of 0x85 ∷ copy_of 0x83 ∷ []) ≡ 0
+deferred_severity : error_severity (copy_of 0x85 ∷ copy_of 0x83 ∷ []) ≡ 0
 unfolding error_severity has_worst is_worst greatest status_fields flag bits copy_of
-contained_severity = refl
+deferred_severity = refl
 
 -- one corrected copy for which several errors came
 several_corrected : block_status (copy_of 0xc3 ∷ []) ≡ 0x1a
