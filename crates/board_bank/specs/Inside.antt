@@ -1,5 +1,5 @@
--- What holds of the parts of a bank at all times, and what the parts of its drain's step leave. This describes the code; no
--- public clause cites it.
+-- What holds of the parts of a bank at all times, and what the parts of its drain's step leave. This describes the
+-- code; no public clause cites it.
 use Rattle.std.specs.Prelude.{◌≡◌, ◌≤◌, ℕ, List, IsSome}
 use Rattle.reri_fields.specs.declared.report.RecordCopy.{RecordCopy}
 use Rattle.reri_fields.specs.declared.drain.DrainNote.{DrainNote}
@@ -25,7 +25,8 @@ pub record Begins (plan : BankPlan) (s : BankState) (old new : BankParts) : Type
   pub gather : new.gather ≡ old.gather
 
 -- a phase of the drain was taken
-pub record Advances (plan : BankPlan) (s : BankState) (d : Draining) (new : BankParts) (rec : ℕ) (note : DrainNote) : Type 0 where
+pub record Advances (plan : BankPlan) (s : BankState) (d : Draining) (new : BankParts) (rec : ℕ)
+    (note : DrainNote) : Type 0 where
   pub took : Took plan (phase_step plan s d d.phase) new.drain new.bank new.slot note
   pub rec_is : rec ≡ d.rec
   pub gather : new.gather ≡ plan.gather

@@ -45,17 +45,20 @@ bank_is plan s p at b shows here =
       stands = shows.banks.each at d.0 x.0 b d.1 x.1 here;
     }
 
-passes_is : (test : BankDecl → BankState → Bool) (o : Option BankDecl) (q : Option BankState) (d : BankDecl) (x : BankState)
+passes_is : (test : BankDecl → BankState → Bool) (o : Option BankDecl) (q : Option BankState) (d : BankDecl)
+    (x : BankState)
     → o ≡ Some d → q ≡ Some x → passes test o q ≡ test d x
 passes_is test o q d x e f = ap (λ (y : Option BankDecl). passes test y q) e ∙ ap (passes test (Some d)) f
 
 pub drains_is : (plan : Plan) (s : BoardState) (p : Parts) (h at : ℕ) (d : BankDecl) (b : BankParts) → Shows plan s p
     → slice_get p.decls.items at ≡ Some d → slice_get p.banks.items at ≡ Some b
-    → passes (is_draining h plan at) (slice_get plan.banks at) (slice_get s.banks at) ≡ ((d.home == h) && is_some b.drain)
+    → passes (is_draining h plan at) (slice_get plan.banks at) (slice_get s.banks at)
+    ≡ ((d.home == h) && is_some b.drain)
 drains_is plan s p h at d b shows decl here =
     let is = bank_is plan s p at b shows here in
     let same : is.decl ≡ d = same_Some is.decl d (sym is.declared ∙ decl) in
-    passes_is (is_draining h plan at) (slice_get plan.banks at) (slice_get s.banks at) is.decl is.state is.known is.there
+    passes_is (is_draining h plan at) (slice_get plan.banks at)
+    (slice_get s.banks at) is.decl is.state is.known is.there
     ∙ ap (λ (e : BankDecl). (e.home == h) && is_some is.state.drain) same
     ∙ ap (λ o. (d.home == h) && is_some o) (sym is.stands.drain_is)
 
@@ -84,7 +87,8 @@ at_is bank t plan events banks d x y e f g =
     ∙ ap (tried_at bank t plan events banks (Some d)) f
     ∙ ap (option_map (bank_effect bank d events banks)) g
 
-at_idle : (bank : ℕ) (t : BankTry) (plan : Plan) (events : Events) (banks : List BankState) (d : BankDecl) (x : BankState)
+at_idle : (bank : ℕ) (t : BankTry) (plan : Plan) (events : Events) (banks : List BankState) (d : BankDecl)
+    (x : BankState)
     → slice_get plan.banks bank ≡ Some d → slice_get banks bank ≡ Some x
     → bank_step (bank_plan bank d plan.recs) x t ≡ None → at_bank bank t plan events banks ≡ None
 unfolding at_bank
@@ -100,7 +104,8 @@ at_nowhere bank t plan events banks e =
     ap (λ (o : Option BankDecl). tried_at bank t plan events banks o (slice_get banks bank)) e
 
 -- the banks after a step of one
-pub banks_after : (plan : Plan) (states : List BankState) (banks : List BankParts) (at : ℕ) (d : BankDecl) (x : BankState)
+pub banks_after : (plan : Plan) (states : List BankState) (banks : List BankParts) (at : ℕ) (d : BankDecl)
+    (x : BankState)
     (b : BankParts) → AreBanks plan states banks → at < length banks → slice_get plan.banks at ≡ Some d
     → StandsFor (bank_plan at d plan.recs) x b → AreBanks plan (set states at x) (set banks at b)
 banks_after plan states banks at d x b are low known stands =
@@ -111,8 +116,10 @@ banks_after plan states banks at d x b are low known stands =
           elim (cases_eq i at) as (λ _. StandsFor (bank_plan i e plan.recs) y c) [
             | inl here ↦
                 let decl : d ≡ e = same_Some d e (sym known ∙ ap (slice_get plan.banks) (sym here) ∙ e_is) in
-                let state : x ≡ y = same_Some x y (sym (get-set_same states at x (omega (arith, are.count, are.there))) ∙ ap (slice_get (set states at x)) (sym here) ∙ y_is) in
-                let bank : b ≡ c = same_Some b c (sym (get-set_same banks at b low) ∙ ap (slice_get (set banks at b)) (sym here) ∙ c_is) in
+                let state : x ≡ y = same_Some x y (sym (get-set_same states at x (omega
+                (arith, are.count, are.there))) ∙ ap (slice_get (set states at x)) (sym here) ∙ y_is) in
+                let bank : b ≡ c = same_Some b c (sym (get-set_same banks at b low)
+                ∙ ap (slice_get (set banks at b)) (sym here) ∙ c_is) in
                 subst (λ j. StandsFor (bank_plan j e plan.recs) y c) (sym here)
                 (subst (λ (f : BankDecl). StandsFor (bank_plan at f plan.recs) y c) decl
                 (subst (λ (z : BankState). StandsFor (bank_plan at d plan.recs) z c) state
@@ -167,10 +174,12 @@ taken plan s p q at d b c t note came shows decl here makes rests banks firmware
     let e = bank_effect at d s.machine.events s.banks y in
     let made_is : at_bank at t plan s.machine.events s.banks ≡ Some e =
     at_is at t plan s.machine.events s.banks d is.state y known is.there made.step in
-    let after = banks_after plan s.banks p.banks.items at d made.state c shows.banks (slice_get_within p.banks.items at b here) known made.stands_for in
+    let after = banks_after plan s.banks p.banks.items at d made.state c shows.banks
+    (slice_get_within p.banks.items at b here) known made.stands_for in
     subst (λ o. Takes plan s o q (Some came)) (sym made_is)
     (record {
-      outcome = ap (λ n. Some n) (told ∙ ap (λ (m : Machine). outcome_of (bank_note at d m.events note) (published_by at note)) shows.machine);
+      outcome = ap (λ n. Some n) (told ∙ ap (λ (m : Machine). outcome_of (bank_note at d m.events note)
+          (published_by at note)) shows.machine);
       shows = shows_after plan s p q e shows rests
           (firmware ∙ ap (λ (m : Machine). record p.firmware { events = events_after d m.events note }) shows.machine)
           (subst (AreBanks plan e.banks) (sym banks) after);
@@ -187,11 +196,13 @@ not_taken plan s p at d b t shows decl here none =
     at_idle at t plan s.machine.events s.banks d is.state (is.known ∙ ap (λ (e : BankDecl). Some e) same) is.there
     (none is.state (subst (λ (e : BankDecl). StandsFor (bank_plan at e plan.recs) is.state b) same is.stands))
 
-pub no_bank : (plan : Plan) (s : BoardState) (p : Parts) (at : ℕ) (t : BankTry) → Shows plan s p → length p.banks.items ≤ at
+pub no_bank : (plan : Plan) (s : BoardState) (p : Parts) (at : ℕ) (t : BankTry) → Shows plan s p
+    → length p.banks.items ≤ at
     → Takes plan s (at_bank at t plan s.machine.events s.banks) p None
 no_bank plan s p at t shows past =
     subst (λ o. Takes plan s o p None)
-    (sym (at_nowhere at t plan s.machine.events s.banks (slice_get_past plan.banks at (omega (arith, shows.banks.there)))))
+    (sym (at_nowhere at t plan s.machine.events s.banks (slice_get_past plan.banks at (omega
+    (arith, shows.banks.there)))))
     (record { outcome = refl; shows = shows })
 
 pub stays_idle : (plan : Plan) (s : BoardState) (q : Parts) (o : Option Effect) → o ≡ None → Shows plan s q

@@ -39,7 +39,13 @@ pub reach_is : (plan : Plan) (s : BoardState) (p : Parts) (h : ℕ) (stack : Sta
     → slice_get s.machine.stacks h ≡ Some stack → reach h p.firmware ≡ (board_reach stack s).own
 reach_is plan s p h stack shows there =
     ap (reach h) shows.machine
-    ∙ ap (λ (x : Stack). record { stack = x; events = s.machine.events; masks = s.machine.masks; memory = s.machine.memory })
+    ∙ ap (λ (x : Stack). record {
+      stack = x;
+      events = s.machine.events;
+      masks = s.machine.masks;
+      memory =
+          s.machine.memory;
+    })
     (get_or_from_slice_get s.machine.stacks h stack (fresh_stack 0) there)
 
 -- a stack that is put back where it was
@@ -94,7 +100,8 @@ pub illegal_acts : (plan : Plan) (s : BoardState) (q : Parts) (h : ℕ) (stack :
     → Acts h plan s (Some (allowed h plan s.machine.stacks (board_reach stack s) op)) q (Some came)
 illegal_acts plan s q h stack op came shows forbidden told =
     let next = next_reach s stack in
-    subst (λ b. Acts h plan s (Some (cond b (quietly next note.Illegal) (apply h plan s.machine.stacks next op))) q (Some came))
+    subst (λ b. Acts h plan s (Some (cond b (quietly next note.Illegal) (apply h plan s.machine.stacks next op))) q
+    (Some came))
     (sym forbidden) (record { outcome = ap (λ c. Some c) told; shows = shows })
 
 legal_acts : (plan : Plan) (s : BoardState) (q : Parts) (h : ℕ) (stack : Stack) (op : Op) (came : Option Outcome)
@@ -103,27 +110,39 @@ legal_acts : (plan : Plan) (s : BoardState) (q : Parts) (h : ℕ) (stack : Stack
     → Acts h plan s (Some (allowed h plan s.machine.stacks (board_reach stack s) op)) q came
 legal_acts plan s q h stack op came legal acts =
     let next = next_reach s stack in
-    subst (λ b. Acts h plan s (Some (cond b (quietly next note.Illegal) (apply h plan s.machine.stacks next op))) q came)
+    subst (λ b. Acts h plan s (Some (cond b (quietly next note.Illegal)
+    (apply h plan s.machine.stacks next op))) q came)
     (sym legal) acts
 
 -- ---- `ack` ----
 
 ack_takes : (plan : Plan) (s : BoardState) (q : Parts) (h : ℕ) (stack : Stack) (bank : ℕ) (o : Option Effect)
     (came : Option Outcome) → Takes plan (at_past h s stack) o q came
-    → Acts h plan s (Some (unwrap_or (option_map (with_effect (next_reach s stack)) o) (quietly (next_reach s stack) (note.Ack bank None)))) q
+    → Acts h plan s (Some (unwrap_or (option_map (with_effect (next_reach s stack)) o) (quietly (next_reach s stack)
+    (note.Ack bank None)))) q
     (Some (unwrap_or came (outcome_of (note.Ack bank None) None)))
 ack_takes plan s q h stack bank None came takes =
-    record { outcome = ap (λ c. Some (unwrap_or c (outcome_of (note.Ack bank None) None))) takes.outcome; shows = takes.shows }
+    record {
+      outcome = ap (λ c. Some (unwrap_or c (outcome_of
+          (note.Ack bank None) None))) takes.outcome;
+      shows = takes.shows;
+    }
 ack_takes plan s q h stack bank (Some e) came takes =
-    record { outcome = ap (λ c. Some (unwrap_or c (outcome_of (note.Ack bank None) None))) takes.outcome; shows = takes.shows }
+    record {
+      outcome = ap (λ c. Some (unwrap_or c (outcome_of
+          (note.Ack bank None) None))) takes.outcome;
+      shows = takes.shows;
+    }
 
-pub ack_acts : (plan : Plan) (s : BoardState) (q : Parts) (h : ℕ) (stack : Stack) (bank : ℕ) (came : Option Outcome) (last : Outcome)
+pub ack_acts : (plan : Plan) (s : BoardState) (q : Parts) (h : ℕ) (stack : Stack) (bank : ℕ) (came : Option Outcome)
+    (last : Outcome)
     → (is_user stack.live.privilege && needs_supervisor (ops.Ack bank)) ≡ false
     → Takes plan (at_past h s stack) (at_bank bank Acknowledges plan s.machine.events s.banks) q came
     → last ≡ unwrap_or came (outcome_of (note.Ack bank None) None)
     → Acts h plan s (Some (allowed h plan s.machine.stacks (board_reach stack s) (ops.Ack bank))) q (Some last)
 ack_acts plan s q h stack bank came last legal takes told =
-    subst (λ c. Acts h plan s (Some (allowed h plan s.machine.stacks (board_reach stack s) (ops.Ack bank))) q (Some c)) (sym told)
+    subst (λ c. Acts h plan s (Some (allowed h plan s.machine.stacks (board_reach stack s) (ops.Ack bank))) q
+    (Some c)) (sym told)
     (legal_acts plan s q h stack (ops.Ack bank) (Some (unwrap_or came (outcome_of (note.Ack bank None) None))) legal
     (ack_takes plan s q h stack bank (at_bank bank Acknowledges plan s.machine.events s.banks) came takes))
 
@@ -135,7 +154,8 @@ unplug_is : (h : ℕ) (s : BoardState) (r : BoardReach) (reporter : ℕ) (o : Op
 unplug_is h s r reporter None = refl
 unplug_is h s r reporter (Some x) = refl
 
-pub unplug_acts : (plan : Plan) (s : BoardState) (q : Parts) (h : ℕ) (stack : Stack) (reporter : ℕ) (was : Bool) (last : Outcome)
+pub unplug_acts : (plan : Plan) (s : BoardState) (q : Parts) (h : ℕ) (stack : Stack) (reporter : ℕ) (was : Bool)
+    (last : Outcome)
     → (is_user stack.live.privilege && needs_supervisor (ops.Unplug reporter)) ≡ false
     → Shows plan (without_plug reporter (at_past h s stack)) q → was_plugged reporter (at_past h s stack) ≡ was
     → last ≡ outcome_of (note.Unplug reporter was) None
@@ -143,7 +163,8 @@ pub unplug_acts : (plan : Plan) (s : BoardState) (q : Parts) (h : ℕ) (stack : 
 unplug_acts plan s q h stack reporter was last legal shows plugged told =
     let next = next_reach s stack in
     legal_acts plan s q h stack (ops.Unplug reporter) (Some last) legal
-    (subst (λ m. Acts h plan s (Some m) q (Some last)) (sym (unplug_is h s next reporter (slice_get s.reporters reporter)))
+    (subst (λ m. Acts h plan s (Some m) q (Some last)) (sym (unplug_is h s next reporter
+    (slice_get s.reporters reporter)))
     (record {
       outcome = ap (λ c. Some c) (told ∙ ap (λ b. outcome_of (note.Unplug reporter b) None) (sym plugged));
       shows = shows;
@@ -178,7 +199,8 @@ allowed_is h plan ss r op ack unplug =
     ap (cond b (quietly (record r { own = past r.own }) note.Illegal)) (own_apply h plan ss r op ack unplug)
     ∙ own_cond b r (done (past r.own) note.Illegal) (own.own_done h ss (past r.own) op)
 
-pub own_acts : (plan : Plan) (s : BoardState) (p q : Parts) (h : ℕ) (stack : Stack) (op : Op) (n : StepNote) (came : Outcome)
+pub own_acts : (plan : Plan) (s : BoardState) (p q : Parts) (h : ℕ) (stack : Stack) (op : Op) (n : StepNote)
+    (came : Outcome)
     → Shows plan s p → slice_get s.machine.stacks h ≡ Some stack → ((bank : ℕ) → op ≡ ops.Ack bank → ⊥)
     → ((reporter : ℕ) → op ≡ ops.Unplug reporter → ⊥) → Rests p q → q.banks.items ≡ p.banks.items
     → Executes h p.firmware q.firmware n (own.own_step h p.firmware.stacks (reach h p.firmware) op)
@@ -199,7 +221,8 @@ own_acts plan s p q h stack op n came shows there ack unplug rests banks did tol
 
 -- ---- What comes first ----
 
-drain_acts : (plan : Plan) (s : BoardState) (q : Parts) (h : ℕ) (stack : Stack) (o : Option Effect) (came : Option Outcome)
+drain_acts : (plan : Plan) (s : BoardState) (q : Parts) (h : ℕ) (stack : Stack) (o : Option Effect)
+    (came : Option Outcome)
     → slice_get s.machine.stacks h ≡ Some stack → Takes plan s o q came
     → Acts h plan s (option_map (with_effect (board_reach stack s)) o) q came
 drain_acts plan s q h stack None came there takes = record { outcome = takes.outcome; shows = takes.shows }
@@ -222,7 +245,8 @@ first_drains plan s q h stack bank came there due takes =
     (drain_acts plan s q h stack (at_bank bank Drains plan s.machine.events s.banks) came there takes)
 
 -- what is chosen, where no drain is due
-chosen_acts : (plan : Plan) (s : BoardState) (p q : Parts) (h : ℕ) (stack : Stack) (came : Option Outcome) (at : Option Instance)
+chosen_acts : (plan : Plan) (s : BoardState) (p q : Parts) (h : ℕ) (stack : Stack) (came : Option Outcome)
+    (at : Option Instance)
     → Shows plan s p → slice_get s.machine.stacks h ≡ Some stack → bank_due h plan s.banks ≡ None
     → at ≡ next_for h (reach h p.firmware)
     → Acts h plan s (on_chosen h plan s.machine.stacks (board_reach stack s) at) q came
@@ -234,7 +258,8 @@ chosen_acts plan s p q h stack came at shows there due chosen acts =
     (chosen ∙ ap (next_for h) (reach_is plan s p h stack shows there)) acts)
 
 -- a delivery
-pub then_delivers : (plan : Plan) (s : BoardState) (p q : Parts) (h : ℕ) (stack : Stack) (at : Instance) (came : Outcome)
+pub then_delivers : (plan : Plan) (s : BoardState) (p q : Parts) (h : ℕ) (stack : Stack) (at : Instance)
+    (came : Outcome)
     → Shows plan s p → slice_get s.machine.stacks h ≡ Some stack → bank_due h plan s.banks ≡ None
     → Some at ≡ next_for h (reach h p.firmware) → Rests p q → q.banks.items ≡ p.banks.items
     → q.firmware ≡ placed h (delivered h at (reach h p.firmware)) p.firmware
@@ -260,7 +285,8 @@ then_op plan s p q h stack op came pc shows there due chosen at stands acts =
     let r = board_reach stack s in
     chosen_acts plan s p q h stack (Some came) None shows there due chosen
     (subst (λ o. Acts h plan s (option_map (allowed h plan s.machine.stacks r) o) q (Some came))
-    (stands ∙ ap (λ x. op_at x plan.ops) (at ∙ ap (λ (x : Reach). x.stack.live.pc) (reach_is plan s p h stack shows there)))
+    (stands ∙ ap (λ x. op_at x plan.ops) (at ∙ ap (λ (x : Reach). x.stack.live.pc)
+    (reach_is plan s p h stack shows there)))
     acts)
 
 -- nothing
@@ -272,7 +298,8 @@ then_nothing plan s p q h stack pc shows there due chosen at stands still =
     let r = board_reach stack s in
     chosen_acts plan s p q h stack None None shows there due chosen
     (subst (λ o. Acts h plan s (option_map (allowed h plan s.machine.stacks r) o) q None)
-    (stands ∙ ap (λ x. op_at x plan.ops) (at ∙ ap (λ (x : Reach). x.stack.live.pc) (reach_is plan s p h stack shows there)))
+    (stands ∙ ap (λ x. op_at x plan.ops) (at ∙ ap (λ (x : Reach). x.stack.live.pc)
+    (reach_is plan s p h stack shows there)))
     (record { outcome = refl; shows = still }))
 
 -- ---- Budgets and counts ----
@@ -284,16 +311,22 @@ budget_is plan s p h x shows low read =
     ap length shows.budgets_are ∙ length-map-range_with_len (λ k. budget_of k plan.starts) 0 plan.harts in
     get_or_read p.budgets.items h x low read 0
     ∙ ap (λ (bs : List ℕ). get_or bs h 0) shows.budgets_are
-    ∙ get_or-map-range_with_len (λ k. budget_of k plan.starts) 0 plan.harts h h 0 (omega (arith, many, low)) (omega arith)
+    ∙ get_or-map-range_with_len (λ k. budget_of k plan.starts) 0 plan.harts h h 0 (omega (arith, many, low))
+    (omega arith)
 
-pub counts_is : (plan : Plan) (s : BoardState) (p : Parts) (h : ℕ) (x : Counts) → Shows plan s p → h < length p.counts.items
+pub counts_is : (plan : Plan) (s : BoardState) (p : Parts) (h : ℕ) (x : Counts) → Shows plan s p
+    → h < length p.counts.items
     → x ≡ get_or p.counts.items h x → x ≡ counts_of h s
 counts_is plan s p h x shows low read =
     get_or_read p.counts.items h x low read no_counts ∙ ap (λ (cs : List Counts). get_or cs h no_counts) shows.counts
 
 pub stack_there : (plan : Plan) (s : BoardState) (p : Parts) (h : ℕ) → Shows plan s p → h < length p.firmware.stacks
     → (stack : Stack) × (slice_get s.machine.stacks h ≡ Some stack)
-stack_there plan s p h shows low = get_there s.machine.stacks h (omega (arith, ap (λ (m : Machine). length m.stacks) shows.machine))
+stack_there plan s p h shows low = get_there s.machine.stacks h (omega (
+  arith,
+  ap (λ
+      (m : Machine). length m.stacks) shows.machine,
+))
 
 -- a hart that has made its budget
 pub spent : (plan : Plan) (s : BoardState) (p : Parts) (h : ℕ) (stack : Stack) → Shows plan s p
@@ -324,7 +357,8 @@ idle_made plan s q h None acts = record { outcome = refl; shows = acts.shows }
 idle_made plan s q h (Some m) acts = absurd (none-some (outcome_of m.note m.published) acts.outcome)
 
 -- a hart that has no step
-pub idles : (plan : Plan) (s : BoardState) (q : Parts) (h : ℕ) (stack : Stack) → slice_get s.machine.stacks h ≡ Some stack
+pub idles : (plan : Plan) (s : BoardState) (q : Parts) (h : ℕ) (stack : Stack)
+    → slice_get s.machine.stacks h ≡ Some stack
     → (counts_of h s).steps < budget_of h plan.starts
     → Acts h plan s (own_step h plan s.machine.stacks (board_reach stack s)) q None
     → Steps plan s (hart_step h plan s) q None
@@ -369,7 +403,8 @@ step_made plan s p q h (Some m) came before acts was counts =
     record {
       outcome = acts.outcome;
       shows = with_counts plan (reached h s m.reach) p q (set s.counts h (counted m.note (counts_of h s))) (suc s.steps)
-          acts.shows counts.firmware counts.index counts.decls counts.banks counts.budgets counts.limits counts.reporters
+          acts.shows counts.firmware counts.index counts.decls counts.banks counts.budgets counts.limits
+          counts.reporters
           (counts.counts ∙ ap (λ (cs : List Counts). set cs h (counted came.note before)) acts.shows.counts
           ∙ ap (λ (x : Outcome). set s.counts h (counted x.note before)) told
           ∙ ap (λ x. set s.counts h (counted m.note x)) was);

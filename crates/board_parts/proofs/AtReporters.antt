@@ -24,24 +24,41 @@ use Rattle.board_parts.specs.Came.{Takes, Steps, outcome_of, with_act_counted, w
 
 error_of : (plan : Plan) (s : BoardState) (q : Parts) (report : Report) (o : Option Effect) (came : Option Outcome)
     → Takes plan s o q came
-    → Takes plan s (Some (unwrap_or o (record { events = s.machine.events; banks = s.banks; note = note.Error report None; published = None }))) q
+    → Takes plan s (Some (unwrap_or o (record {
+      events = s.machine.events;
+      banks = s.banks;
+      note = note.Error report
+          None;
+      published = None;
+    }))) q
     (Some (unwrap_or came (outcome_of (note.Error report None) None)))
 error_of plan s q report None came takes =
-    record { outcome = ap (λ c. Some (unwrap_or c (outcome_of (note.Error report None) None))) takes.outcome; shows = takes.shows }
+    record {
+      outcome = ap (λ c. Some (unwrap_or c (outcome_of
+          (note.Error report None) None))) takes.outcome;
+      shows = takes.shows;
+    }
 error_of plan s q report (Some e) came takes =
-    record { outcome = ap (λ c. Some (unwrap_or c (outcome_of (note.Error report None) None))) takes.outcome; shows = takes.shows }
+    record {
+      outcome = ap (λ c. Some (unwrap_or c (outcome_of
+          (note.Error report None) None))) takes.outcome;
+      shows = takes.shows;
+    }
 
 pub error_takes : (plan : Plan) (s : BoardState) (q : Parts) (report : Report) (came : Option Outcome) (last : Outcome)
-    → Takes plan s (at_bank report.bank (Reports (record { step = suc s.steps; report = report })) plan s.machine.events s.banks) q came
+    → Takes plan s (at_bank report.bank (Reports (record { step = suc s.steps; report = report })) plan
+    s.machine.events s.banks) q came
     → last ≡ unwrap_or came (outcome_of (note.Error report None) None)
     → Takes plan s (Some (on_error plan report s)) q (Some last)
 error_takes plan s q report came last takes told =
     subst (λ c. Takes plan s (Some (on_error plan report s)) q (Some c)) (sym told)
-    (error_of plan s q report (at_bank report.bank (Reports (record { step = suc s.steps; report = report })) plan s.machine.events s.banks) came takes)
+    (error_of plan s q report (at_bank report.bank (Reports (record { step = suc s.steps; report = report })) plan
+    s.machine.events s.banks) came takes)
 
 -- ---- Whether a reporter is wanted ----
 
-reporters_many : (plan : Plan) (s : BoardState) (p : Parts) → Shows plan s p → length p.limits.items ≡ length plan.reporters
+reporters_many : (plan : Plan) (s : BoardState) (p : Parts) → Shows plan s p
+    → length p.limits.items ≡ length plan.reporters
 reporters_many plan s p shows =
     ap length shows.limits_are ∙ length-map plan.reporters (λ (r : plan_reporter.Reporter). r.limit)
 
@@ -103,7 +120,8 @@ unfolding reporter_step
 no_act plan s p r a shows is =
     subst (λ b. Steps plan s (reporter_step r plan b s) p None) (sym is) (record { outcome = refl; shows = shows })
 
-pub unwanted : (plan : Plan) (s : BoardState) (p : Parts) (r : ℕ) (a : Option Act) (next : Act) → Shows plan s p → a ≡ Some next
+pub unwanted : (plan : Plan) (s : BoardState) (p : Parts) (r : ℕ) (a : Option Act) (next : Act) → Shows plan s p
+    → a ≡ Some next
     → wants plan r s ≡ false → Steps plan s (reporter_step r plan a s) p None
 unfolding reporter_step
 unwanted plan s p r a next shows is not_wanted =
@@ -125,7 +143,8 @@ with_steps plan s q n shows =
       reporters = shows.reporters;
     }
 
-pub makes_act : (plan : Plan) (s : BoardState) (q : Parts) (r : ℕ) (a : Option Act) (next : Act) (came : Outcome) → a ≡ Some next
+pub makes_act : (plan : Plan) (s : BoardState) (q : Parts) (r : ℕ) (a : Option Act) (next : Act) (came : Outcome)
+    → a ≡ Some next
     → wants plan r s ≡ true → Takes plan (with_act_counted r s true) (Some (on_act plan s next)) q (Some came)
     → Steps plan s (reporter_step r plan a s) q (Some came)
 unfolding reporter_step
@@ -134,4 +153,8 @@ makes_act plan s q r a next came is wanted takes =
     let made : reporter_step r plan a s ≡ Some (after_reporter r s e) =
     ap (λ b. reporter_step r plan b s) is ∙ cond-true (wants plan r s) (Some (after_reporter r s e)) None wanted in
     subst (λ o. Steps plan s o q (Some came)) (sym made)
-    (record { outcome = takes.outcome; shows = with_steps plan (with_effect_on (with_act_counted r s true) e) q (suc s.steps) takes.shows })
+    (record {
+      outcome = takes.outcome;
+      shows = with_steps plan (with_effect_on (with_act_counted r s true) e) q
+          (suc s.steps) takes.shows;
+    })

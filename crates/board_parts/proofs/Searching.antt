@@ -44,7 +44,8 @@ pub first_is : (test : ℕ → BankDecl → BankState → Bool) (plan : Plan) (b
     → first_bank test plan banks ≡ Some at
 unfolding first_bank
 first_is test plan banks many at is low here before =
-    find_first (λ b. passes (test b) (slice_get plan.banks b) (slice_get banks b)) 0 (length plan.banks) at (omega arith)
+    find_first (λ b. passes (test b) (slice_get plan.banks b) (slice_get banks b)) 0 (length plan.banks) at
+    (omega arith)
     (omega (arith, is)) here before
 
 -- the one that drains comes before the one that waits

@@ -15,7 +15,8 @@ use Rattle.board_parts.specs.declared.parts.Parts.{Parts}
 use Rattle.board_parts.specs.Shows.{Shows}
 
 -- the outcome was wanted, and the parts are of this state
-pub record Gives (plan : Plan) (s : BoardState) (wanted : Option Outcome) (p : Parts) (came : Option Outcome) : Type 0 where
+pub record Gives (plan : Plan) (s : BoardState) (wanted : Option Outcome) (p : Parts)
+    (came : Option Outcome) : Type 0 where
   pub outcome : came ≡ wanted
   pub shows : Shows plan s p
 

@@ -24,8 +24,8 @@ budgets plan = map (λ h. budget_of h plan.starts) (range_with_len 0 plan.harts)
 abbrev pub limits : Plan → List ℕ
 limits plan = map (λ r. r.limit) plan.reporters
 
--- Firmware, banks, counts and reporters are those of the state, and what never changes is the plan's. How many steps were
--- made is kept elsewhere.
+-- Firmware, banks, counts and reporters are those of the state, and what never changes is the plan's. How many steps
+-- were made is kept elsewhere.
 pub record Shows (plan : Plan) (s : BoardState) (p : Parts) : Type 0 where
   pub machine : p.firmware ≡ s.machine
   pub index : Indexes plan.ops p.index

@@ -45,7 +45,8 @@ impl Parts {
 
     /// The first bank of a hart whose drain is under way.
     fn draining(&self, hart: u8) -> Option<u8>
-        ensures which { (plan : Plan) (s : BoardState) → Shows plan s self.now → first_bank (is_draining hart plan) plan s.banks ≡ result }
+        ensures which { (plan : Plan) (s : BoardState) → Shows plan s self.now
+            → first_bank (is_draining hart plan) plan s.banks ≡ result }
         ensures there { IfSome result (λ at. at < length self.now.banks.items) }
     {
         for at in 0..self.banks.len() {
@@ -58,7 +59,8 @@ impl Parts {
 
     /// The first bank of a hart whose drain may begin.
     fn waiting(&self, hart: u8) -> Option<u8>
-        ensures which { (plan : Plan) (s : BoardState) → Shows plan s self.now → first_bank (is_waiting hart plan) plan s.banks ≡ result }
+        ensures which { (plan : Plan) (s : BoardState) → Shows plan s self.now
+            → first_bank (is_waiting hart plan) plan s.banks ≡ result }
         ensures there { IfSome result (λ at. at < length self.now.banks.items) }
     {
         for at in 0..self.banks.len() {
@@ -119,7 +121,8 @@ impl Parts {
         requires { report.now.priority < 4 }
         ensures takes { (plan : Plan) (s : BoardState) (n : ℕ) → Shows plan s self.old
             → ((i : ℕ) (x : BankState) → slice_get s.banks i ≡ Some x → AllLogsBefore n x.history)
-            → Takes plan s (at_bank report.now.bank (Reports (record { step = n; report = report.now })) plan s.machine.events s.banks) self.new result }
+            → Takes plan s (at_bank report.now.bank (Reports (record { step = n; report = report.now })) plan
+            s.machine.events s.banks) self.new result }
         ensures harts { self.new.firmware.events.harts ≡ self.old.firmware.events.harts }
     {
         let at = report.bank as usize;

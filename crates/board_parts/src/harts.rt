@@ -19,7 +19,8 @@ impl Parts {
         requires { hart < self.old.firmware.events.harts }
         ensures acts { (plan : Plan) (s : BoardState) (stack : Stack) → Shows plan s self.old
             → slice_get s.machine.stacks hart ≡ Some stack
-            → Acts hart plan s (Some (allowed hart plan s.machine.stacks (board_reach stack s) (Op.Ack bank))) self.new (Some result) }
+            → Acts hart plan s (Some (allowed hart plan s.machine.stacks (board_reach stack s)
+            (Op.Ack bank))) self.new (Some result) }
         ensures harts { self.new.firmware.events.harts ≡ self.old.firmware.events.harts }
     {
         let illegal = is_illegal(&self.firmware, hart, &Op::Ack { bank });
@@ -50,7 +51,8 @@ impl Parts {
         requires { hart < self.old.firmware.events.harts }
         ensures acts { (plan : Plan) (s : BoardState) (stack : Stack) → Shows plan s self.old
             → slice_get s.machine.stacks hart ≡ Some stack
-            → Acts hart plan s (Some (allowed hart plan s.machine.stacks (board_reach stack s) (Op.Unplug reporter))) self.new (Some result) }
+            → Acts hart plan s (Some (allowed hart plan s.machine.stacks (board_reach stack s)
+            (Op.Unplug reporter))) self.new (Some result) }
         ensures harts { self.new.firmware.events.harts ≡ self.old.firmware.events.harts }
     {
         let illegal = is_illegal(&self.firmware, hart, &Op::Unplug { reporter });
@@ -67,7 +69,8 @@ impl Parts {
         requires { hart < self.old.firmware.events.harts }
         ensures acts { (plan : Plan) (s : BoardState) (stack : Stack) → Shows plan s self.old
             → slice_get s.machine.stacks hart ≡ Some stack
-            → Acts hart plan s (Some (allowed hart plan s.machine.stacks (board_reach stack s) op)) self.new (Some result) }
+            → Acts hart plan s (Some (allowed hart plan s.machine.stacks (board_reach stack s) op)) self.new
+            (Some result) }
         ensures harts { self.new.firmware.events.harts ≡ self.old.firmware.events.harts }
     {
         match op {
@@ -98,8 +101,8 @@ impl Parts {
         }
     }
 
-    /// Makes the step of a hart, which the board has. None exactly where the hart has none: it has made its budget, no drain is
-    /// due, no event is to be delivered and no op stands at its pc. Then nothing changes.
+    /// Makes the step of a hart, which the board has. None exactly where the hart has none: it has made its budget,
+    /// no drain is due, no event is to be delivered and no op stands at its pc. Then nothing changes.
     pub fn hart_step(&mut self, hart: u8) -> Option<Outcome>
         requires { hart < self.old.firmware.events.harts }
         ensures steps { (plan : Plan) (s : BoardState) → Shows plan s self.old

@@ -1,5 +1,5 @@
-//! The parts of a board: its firmware, its banks, its reporters and what is counted of its harts, and the steps of harts and
-//! reporters on them.
+//! The parts of a board: its firmware, its banks, its reporters and what is counted of its harts, and the steps of
+//! harts and reporters on them.
 #![tactic(auto)]
 
 mod banks;

@@ -61,8 +61,8 @@ impl Parts {
         true
     }
 
-    /// Makes the step of a reporter with this act, whose error has a priority of at most 3. None exactly where there is no act
-    /// or the reporter isn't wanted; then nothing changes.
+    /// Makes the step of a reporter with this act, whose error has a priority of at most 3. None exactly where there
+    /// is no act or the reporter isn't wanted; then nothing changes.
     pub fn reporter_step(&mut self, reporter: u8, act: Option<Act>) -> Option<Outcome>
         requires { IsReport act }
         ensures steps { (plan : Plan) (s : BoardState) → Shows plan s self.old → AreEarly s

@@ -58,11 +58,14 @@ fn level_event(decl: &BankDecl, level: u8) -> Option<u32>
     }
 }
 
-/// Signals the event of a level of a bank, on its home hart where it is local, and says which; None where the level has
-/// none, or the board hasn't it.
+/// Signals the event of a level of a bank, on its home hart where it is local, and says which; None where the level
+/// has none, or the board hasn't it.
 fn signal_level(firmware: &mut Firmware, decl: &BankDecl, level: u8) -> Option<u32>
     ensures signalled { result ≡ event_signalled decl.now firmware.old.events level }
-    ensures next { firmware.new ≡ record firmware.old { events = signal_event decl.now.home firmware.old.events result } }
+    ensures next { firmware.new ≡ record firmware.old {
+      events = signal_event decl.now.home firmware.old.events
+          result;
+    } }
     ensures harts { firmware.new.events.harts ≡ firmware.old.events.harts }
     ensures instances { firmware.new.events.instances ≡ firmware.old.events.instances }
 {
@@ -82,7 +85,10 @@ pub(crate) fn drawn(
 ) -> Outcome
     ensures note { result.note ≡ drain_note bank decl.now firmware.old.events rec did }
     ensures published { result.published ≡ published_by bank (Drew rec did) }
-    ensures next { firmware.new ≡ record firmware.old { events = events_after decl.now firmware.old.events (Drew rec did) } }
+    ensures next { firmware.new ≡ record firmware.old {
+      events = events_after decl.now firmware.old.events
+          (Drew rec did);
+    } }
     ensures harts { firmware.new.events.harts ≡ firmware.old.events.harts }
     ensures instances { firmware.new.events.instances ≡ firmware.old.events.instances }
 {

@@ -7,7 +7,8 @@ use Rattle.board_bank.proofs.drained.BoardBank.begin.Goals as goal
 pub invariant_of-self : goal.invariant_of-self
 invariant_of-self c =
     let i = c.self.inside in
-    let may = ap (λ b. b.bank.asks && is_free b.slot) c.self.view_is ∙ sym c.may_begin.ensures ∙ c.if-not-may_begin.false in
+    let may = ap (λ b. b.bank.asks && is_free b.slot) c.self.view_is ∙ sym c.may_begin.ensures
+    ∙ c.if-not-may_begin.false in
     record {
       fits = fresh_fits c.begin.new.self.drain c.begin.new.self.gathered i.bank c.begin.ensures.begins;
       room = fresh_room c.begin.new.self.drain i.bank.asks i.slot c.begin.ensures.begins may;

@@ -10,7 +10,8 @@ use Rattle.board_parts.proofs.parts.Parts.acknowledge.Goals as goal
 pub returns-then-at-len-clause-takes : goal.returns-then-at-len-clause-takes
 returns-then-at-len-clause-takes c =
     λ plan s h.
-    no_bank plan s c.args.self.now c.args.bank Acknowledges h (omega (arith, c.if-at-len.true, c.len.ensures, c.args.self.now.banks.ok.0))
+    no_bank plan s c.args.self.now c.args.bank Acknowledges h (omega
+    (arith, c.if-at-len.true, c.len.ensures, c.args.self.now.banks.ok.0))
 
 pub returns-clause-takes : goal.returns-clause-takes
 returns-clause-takes c =
@@ -20,6 +21,8 @@ returns-clause-takes c =
     let b = c.index_mut.result.now in
     let here = slice_get_read p.banks.items (length p.banks.items) c.args.bank b refl low c.index_mut.ensures.value in
     let is = bank_is plan s p c.args.bank b h here in
-    taken plan s p _ c.args.bank is.decl b c.acknowledge-full.new.self Acknowledges (Acknowledged c.acknowledge-full.result) _ h
+    taken plan s p _ c.args.bank is.decl b c.acknowledge-full.new.self Acknowledges
+    (Acknowledged c.acknowledge-full.result) _ h
     is.declared here (λ x stands there. c.acknowledge-full.ensures (bank_plan c.args.bank is.decl plan.recs) x stands)
-    (record { index = refl; decls = refl; budgets = refl; counts = refl; limits = refl; reporters = refl }) refl refl c.quiet.ensures
+    (record { index = refl; decls = refl; budgets = refl; counts = refl; limits = refl; reporters = refl }) refl refl
+    c.quiet.ensures

@@ -28,12 +28,21 @@ pub returns-in-Some-get-clause-acts : goal.returns-in-Some-get-clause-acts
 returns-in-Some-get-clause-acts c =
     λ plan s stack h there.
     let still = MatchOption-at_none _ _ c.in_default-deliver.is c.deliver.ensures.next in
-    then_op plan s c.args.self.now c.on_op.new.self c.args.hart stack c.in-Some-get.op c.on_op.result c.regs.result.now.pc h there
+    then_op plan s c.args.self.now c.on_op.new.self c.args.hart stack c.in-Some-get.op c.on_op.result
+    c.regs.result.now.pc h there
     (c.due.ensures.which plan s h ∙ c.in_default.is) (sym c.in_default-deliver.is ∙ c.deliver.ensures.which)
     (ap (λ (r : Regs). r.pc) c.regs.ensures ∙ ap (λ (m : Machine). (stack_of c.args.hart m).live.pc) still)
     (sym c.in-Some-get.is ∙ c.get.ensures plan.ops h.index)
     (c.on_op.ensures.acts plan s stack
-    (with_machine plan s c.args.self.now _ s.machine h (record { index = refl; decls = refl; budgets = refl; counts = refl; limits = refl; reporters = refl }) (still ∙ h.machine) refl) there)
+    (with_machine plan s c.args.self.now _ s.machine h (record {
+      index = refl;
+      decls = refl;
+      budgets = refl;
+      counts =
+          refl;
+      limits = refl;
+      reporters = refl;
+    }) (still ∙ h.machine) refl) there)
 
 pub returns-in-None-clause-acts : goal.returns-in-None-clause-acts
 returns-in-None-clause-acts c =
@@ -43,4 +52,12 @@ returns-in-None-clause-acts c =
     (c.due.ensures.which plan s h ∙ c.in_default.is) (sym c.in_default-deliver.is ∙ c.deliver.ensures.which)
     (ap (λ (r : Regs). r.pc) c.regs.ensures ∙ ap (λ (m : Machine). (stack_of c.args.hart m).live.pc) still)
     (sym c.in-None.is ∙ c.get.ensures plan.ops h.index)
-    (with_machine plan s c.args.self.now _ s.machine h (record { index = refl; decls = refl; budgets = refl; counts = refl; limits = refl; reporters = refl }) (still ∙ h.machine) refl)
+    (with_machine plan s c.args.self.now _ s.machine h (record {
+      index = refl;
+      decls = refl;
+      budgets = refl;
+      counts =
+          refl;
+      limits = refl;
+      reporters = refl;
+    }) (still ∙ h.machine) refl)

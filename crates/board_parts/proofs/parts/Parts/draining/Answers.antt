@@ -9,7 +9,8 @@ returns-then-is_draining-clause-which c =
     λ plan s h.
     let banks = c.args.self.now.banks in
     first_is (is_draining c.args.hart plan) plan s.banks (length banks.items) c.loop-at.at (sym h.banks.there)
-    (omega (arith, c.loop-at-test.true, c.len-at-end.ensures, banks.ok.0)) (c.is_draining.ensures plan s h ∙ c.if-is_draining.true)
+    (omega (arith, c.loop-at-test.true, c.len-at-end.ensures, banks.ok.0)) (c.is_draining.ensures plan s h
+    ∙ c.if-is_draining.true)
     (λ k low. c.loop-at.invariant plan s h k low)
 
 pub returns-clause-which : goal.returns-clause-which
@@ -17,4 +18,10 @@ returns-clause-which c =
     λ plan s h.
     let banks = c.args.self.now.banks in
     nowhere (is_draining c.args.hart plan) plan s.banks (length banks.items) (sym h.banks.there)
-    (λ k low. c.loop-at.invariant plan s h k (omega (arith, c.loop-at-test.false, c.len-at-end.ensures, banks.ok.0, low)))
+    (λ k low. c.loop-at.invariant plan s h k (omega (
+      arith,
+      c.loop-at-test.false,
+      c.len-at-end.ensures,
+      banks.ok.0,
+      low,
+    )))

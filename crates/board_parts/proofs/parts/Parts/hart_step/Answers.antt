@@ -11,9 +11,16 @@ pub returns-then-steps-from-clause-steps : goal.returns-then-steps-from-clause-s
 returns-then-steps-from-clause-steps c =
     λ plan s h.
     let p = c.args.self.now in
-    let stack = stack_there plan s p c.args.hart h (omega (arith, c.harts-harts.ensures.stacks, c.harts-harts.ensures.harts, c.requires)) in
-    let budget = budget_is plan s p c.args.hart c.index-2.result.now h (omega (arith, p.budgeted, c.requires)) c.index-2.ensures in
-    let was = c.again-counts.ensures ∙ counts_is plan s p c.args.hart c.index.result.now h (omega (arith, p.counted, c.requires)) c.index.ensures in
+    let stack = stack_there plan s p c.args.hart h (omega (
+      arith,
+      c.harts-harts.ensures.stacks,
+      c.harts-harts.ensures.harts,
+      c.requires,
+    )) in
+    let budget = budget_is plan s p c.args.hart c.index-2.result.now h (omega
+    (arith, p.budgeted, c.requires)) c.index-2.ensures in
+    let was = c.again-counts.ensures ∙ counts_is plan s p c.args.hart c.index.result.now h (omega
+    (arith, p.counted, c.requires)) c.index.ensures in
     let out : budget_of c.args.hart plan.starts ≤ (counts_of c.args.hart s).steps =
     omega (arith, c.if-steps-from.true, c.from.ensures, c.steps.ensures, budget, ap (λ (x : Counts). x.steps) was) in
     spent plan s p c.args.hart stack.0 h stack.1 out
@@ -22,26 +29,42 @@ pub returns-in_default-clause-steps : goal.returns-in_default-clause-steps
 returns-in_default-clause-steps c =
     λ plan s h.
     let p = c.args.self.now in
-    let stack = stack_there plan s p c.args.hart h (omega (arith, c.harts-harts.ensures.stacks, c.harts-harts.ensures.harts, c.requires)) in
-    let budget = budget_is plan s p c.args.hart c.index-2.result.now h (omega (arith, p.budgeted, c.requires)) c.index-2.ensures in
-    let was = c.again-counts.ensures ∙ counts_is plan s p c.args.hart c.index.result.now h (omega (arith, p.counted, c.requires)) c.index.ensures in
+    let stack = stack_there plan s p c.args.hart h (omega (
+      arith,
+      c.harts-harts.ensures.stacks,
+      c.harts-harts.ensures.harts,
+      c.requires,
+    )) in
+    let budget = budget_is plan s p c.args.hart c.index-2.result.now h (omega
+    (arith, p.budgeted, c.requires)) c.index-2.ensures in
+    let was = c.again-counts.ensures ∙ counts_is plan s p c.args.hart c.index.result.now h (omega
+    (arith, p.counted, c.requires)) c.index.ensures in
     let low : (counts_of c.args.hart s).steps < budget_of c.args.hart plan.starts =
     omega (arith, c.if-steps-from.false, c.from.ensures, c.steps.ensures, budget, ap (λ (x : Counts). x.steps) was) in
     idles plan s c.act.new.self c.args.hart stack.0 stack.1 low
-    (subst (λ r. Acts c.args.hart plan s (own_step c.args.hart plan s.machine.stacks (board_reach stack.0 s)) c.act.new.self r)
+    (subst (λ r. Acts c.args.hart plan s (own_step c.args.hart plan s.machine.stacks
+    (board_reach stack.0 s)) c.act.new.self r)
     c.in_default.is (c.act.ensures.acts plan s stack.0 h stack.1))
 
 pub returns-clause-steps : goal.returns-clause-steps
 returns-clause-steps c =
     λ plan s h.
     let p = c.args.self.now in
-    let stack = stack_there plan s p c.args.hart h (omega (arith, c.harts-harts.ensures.stacks, c.harts-harts.ensures.harts, c.requires)) in
-    let budget = budget_is plan s p c.args.hart c.index-2.result.now h (omega (arith, p.budgeted, c.requires)) c.index-2.ensures in
-    let was = c.again-counts.ensures ∙ counts_is plan s p c.args.hart c.index.result.now h (omega (arith, p.counted, c.requires)) c.index.ensures in
+    let stack = stack_there plan s p c.args.hart h (omega (
+      arith,
+      c.harts-harts.ensures.stacks,
+      c.harts-harts.ensures.harts,
+      c.requires,
+    )) in
+    let budget = budget_is plan s p c.args.hart c.index-2.result.now h (omega
+    (arith, p.budgeted, c.requires)) c.index-2.ensures in
+    let was = c.again-counts.ensures ∙ counts_is plan s p c.args.hart c.index.result.now h (omega
+    (arith, p.counted, c.requires)) c.index.ensures in
     let low : (counts_of c.args.hart s).steps < budget_of c.args.hart plan.starts =
     omega (arith, c.if-steps-from.false, c.from.ensures, c.steps.ensures, budget, ap (λ (x : Counts). x.steps) was) in
     makes_step plan s c.act.new.self _ c.args.hart stack.0 c.in-Some.outcome c.again-counts.result stack.1 low
-    (subst (λ r. Acts c.args.hart plan s (own_step c.args.hart plan s.machine.stacks (board_reach stack.0 s)) c.act.new.self r)
+    (subst (λ r. Acts c.args.hart plan s (own_step c.args.hart plan s.machine.stacks
+    (board_reach stack.0 s)) c.act.new.self r)
     c.in-Some.is (c.act.ensures.acts plan s stack.0 h stack.1)) was
     (record {
       firmware = refl;

@@ -12,7 +12,8 @@ returns c =
     let p = c.args.self.now in
     let d = c.index.result.now in
     let b = c.index-2.result.now in
-    let decl = slice_get_read p.decls.items (length p.decls.items) c.args.at d refl (omega (arith, p.declared, c.requires)) c.index.ensures in
+    let decl = slice_get_read p.decls.items (length p.decls.items) c.args.at d refl (omega
+    (arith, p.declared, c.requires)) c.index.ensures in
     let here = slice_get_read p.banks.items (length p.banks.items) c.args.at b refl c.requires c.index-2.ensures in
     let home : (d.home == c.args.hart) ≡ true = let e = c.if-index-hart.false in grind (arith, nat_tests) in
     waits_is plan s p c.args.hart c.args.at d b h decl here

@@ -9,7 +9,10 @@ pub returns-clause-acts : goal.returns-clause-acts
 returns-clause-acts c =
     λ plan s stack h there.
     ack_acts plan s _ c.args.hart stack c.args.bank c.acknowledge-came.result _
-    (sym (illegal_is plan s c.args.self.now c.args.hart stack (ops.Ack c.args.bank) h there) ∙ sym c.is_illegal-illegal.ensures ∙ c.if-illegal.false)
-    (c.acknowledge-came.ensures.takes plan (at_past c.args.hart s stack) (passes plan s c.args.self.now _ c.args.hart stack h there
-    (record { index = refl; decls = refl; budgets = refl; counts = refl; limits = refl; reporters = refl }) refl c.pass.ensures))
+    (sym (illegal_is plan s c.args.self.now c.args.hart stack (ops.Ack c.args.bank) h there)
+    ∙ sym c.is_illegal-illegal.ensures ∙ c.if-illegal.false)
+    (c.acknowledge-came.ensures.takes plan (at_past c.args.hart s stack)
+    (passes plan s c.args.self.now _ c.args.hart stack h there
+    (record { index = refl; decls = refl; budgets = refl; counts = refl; limits = refl; reporters = refl }) refl
+    c.pass.ensures))
     (c.unwrap_or.ensures ∙ ap (unwrap_or c.acknowledge-came.result) c.quiet-2.ensures)

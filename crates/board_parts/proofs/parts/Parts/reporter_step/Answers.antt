@@ -14,7 +14,8 @@ pub returns-then-not-count_act-clause-steps : goal.returns-then-not-count_act-cl
 returns-then-not-count_act-clause-steps c =
     λ plan s h early.
     unwanted plan s c.count_act.new.self c.args.reporter c.args.act c.in-Some.act
-    (subst (λ b. Shows plan (with_act_counted c.args.reporter s b) c.count_act.new.self) c.if-not-count_act.true (c.count_act.ensures.shows plan s h))
+    (subst (λ b. Shows plan (with_act_counted c.args.reporter s b) c.count_act.new.self) c.if-not-count_act.true
+    (c.count_act.ensures.shows plan s h))
     c.in-Some.is (c.count_act.ensures.wanted plan s h ∙ c.if-not-count_act.true)
 
 pub returns-in-Error-clause-steps : goal.returns-in-Error-clause-steps
@@ -24,14 +25,17 @@ returns-in-Error-clause-steps c =
     (c.in-Some.is ∙ ap (λ a. Some a) c.in-Error.is)
     (c.count_act.ensures.wanted plan s h ∙ c.if-not-count_act.false)
     (c.on_error.ensures.takes plan (with_act_counted c.args.reporter s true)
-    (subst (λ b. Shows plan (with_act_counted c.args.reporter s b) c.count_act.new.self) c.if-not-count_act.false (c.count_act.ensures.shows plan s h))
+    (subst (λ b. Shows plan (with_act_counted c.args.reporter s b) c.count_act.new.self) c.if-not-count_act.false
+    (c.count_act.ensures.shows plan s h))
     early)
 
 pub returns-in-Raise-clause-steps : goal.returns-in-Raise-clause-steps
 returns-in-Raise-clause-steps c =
     λ plan s h early.
-    makes_act plan s c.on_raise.new.self c.args.reporter c.args.act (act.Raise c.in-Raise.id c.in-Raise.hart) c.on_raise.result
+    makes_act plan s c.on_raise.new.self c.args.reporter c.args.act
+    (act.Raise c.in-Raise.id c.in-Raise.hart) c.on_raise.result
     (c.in-Some.is ∙ ap (λ a. Some a) c.in-Raise.is)
     (c.count_act.ensures.wanted plan s h ∙ c.if-not-count_act.false)
     (c.on_raise.ensures.takes plan (with_act_counted c.args.reporter s true)
-    (subst (λ b. Shows plan (with_act_counted c.args.reporter s b) c.count_act.new.self) c.if-not-count_act.false (c.count_act.ensures.shows plan s h)))
+    (subst (λ b. Shows plan (with_act_counted c.args.reporter s b) c.count_act.new.self) c.if-not-count_act.false
+    (c.count_act.ensures.shows plan s h)))

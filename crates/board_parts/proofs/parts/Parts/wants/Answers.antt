@@ -6,7 +6,8 @@ use Rattle.board_parts.proofs.parts.Parts.wants.Goals as goal
 pub returns-then-at-len : goal.returns-then-at-len
 returns-then-at-len c =
     λ plan s h.
-    no_reporter plan s c.args.self.now c.args.reporter h (omega (arith, c.if-at-len.true, c.len.ensures, c.args.self.now.reporters.ok.0))
+    no_reporter plan s c.args.self.now c.args.reporter h (omega
+    (arith, c.if-at-len.true, c.len.ensures, c.args.self.now.reporters.ok.0))
 
 pub returns : goal.returns
 returns c =
