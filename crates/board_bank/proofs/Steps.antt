@@ -47,8 +47,8 @@ pub reports : (plan : BankPlan) (s : BankState) (step : ℕ) (report : Report) (
     → StandsFor plan s b
     → (IsNone result ↔ (length b.bank.copies ≤ report.rec))
     → BankStands plan.origins (Logs (record { step = step; report = report }) ∷ s.history) bank
-    → ((origin : Origin) → slice_get plan.origins report.rec ≡ Some origin
-    → result ≡ Some (outcome origin (events_of report.rec s.history) (record { step = step; report = report })))
+    → ((origin : Origin) → slice_get plan.origins report.rec ≡ Some origin → result
+    ≡ Some (outcome origin (events_of report.rec s.history) (record { step = step; report = report })))
     → Makes plan s (Reports (record { step = step; report = report })) (Heard report result) (record b { bank = bank })
 unfolding bank_step
 reports plan s step report b bank result h none stands answer =
@@ -63,8 +63,8 @@ reports plan s step report b bank result h none stands answer =
 
 -- ---- An acknowledgement ----
 
-full_is : (slot : List RecordCopy) (full : Bool) → ((full ≡ false) ↔ (slot ≡ []))
-    → cond (is_free slot) false true ≡ full
+full_is : (slot : List RecordCopy) (full : Bool) → ((full ≡ false) ↔ (slot ≡ [])) → cond (is_free slot) false true
+    ≡ full
 unfolding is_free
 full_is [] full h = sym (h.1 refl)
 full_is (copy ∷ slot) true h = refl
@@ -98,23 +98,23 @@ goes_on : (plan : BankPlan) (s : BankState) (d : Option Draining) → is_some d 
 goes_on plan s None h = absurd (true≢false (sym h))
 goes_on plan s (Some d) h = refl
 
-waits : (plan : BankPlan) (s : BankState) (d : Option Draining) → is_some d ≡ false → may_begin plan s ≡ false
-    → d ≡ due_drain plan s d
+waits : (plan : BankPlan) (s : BankState) (d : Option Draining) → is_some d ≡ false → may_begin plan s ≡ false → d
+    ≡ due_drain plan s d
 waits plan s None none not_yet = rw not_yet refl
 waits plan s (Some d) none not_yet = absurd (true≢false none)
 
-starts : (plan : BankPlan) (s : BankState) (d : Option Draining) → is_some d ≡ false → may_begin plan s ≡ true
-    → Some fresh_drain ≡ due_drain plan s d
+starts : (plan : BankPlan) (s : BankState) (d : Option Draining) → is_some d ≡ false → may_begin plan s ≡ true →
+    Some fresh_drain ≡ due_drain plan s d
 starts plan s None none may = rw may refl
 starts plan s (Some d) none may = absurd (true≢false none)
 
-may_is : (plan : BankPlan) (s : BankState) (b : BankParts) → StandsFor plan s b
-    → (b.bank.asks && is_free b.slot) ≡ may_begin plan s
+may_is : (plan : BankPlan) (s : BankState) (b : BankParts) → StandsFor plan s b → (b.bank.asks && is_free b.slot)
+    ≡ may_begin plan s
 may_is plan s b h = ap (λ a. a && is_free b.slot) h.stands.asking
     ∙ ap (λ slot. asks plan.origins s.history && is_free slot) h.slot_is
 
-pub begins_on : (plan : BankPlan) (s : BankState) (b : BankParts) → StandsFor plan s b → is_some b.drain ≡ true
-    → Begins plan s b b
+pub begins_on : (plan : BankPlan) (s : BankState) (b : BankParts) → StandsFor plan s b → is_some b.drain ≡ true →
+    Begins plan s b b
 begins_on plan s b h some =
     record {
       drain = h.drain_is ∙ goes_on plan s s.drain (ap is_some (sym h.drain_is) ∙ some);
@@ -127,15 +127,15 @@ pub begins_not : (plan : BankPlan) (s : BankState) (b : BankParts) → StandsFor
     → (b.bank.asks && is_free b.slot) ≡ false → Begins plan s b b
 begins_not plan s b h none not_yet =
     record {
-      drain = h.drain_is ∙ waits plan s s.drain (ap is_some (sym h.drain_is) ∙ none) (sym (may_is plan s b h)
-          ∙ not_yet);
+      drain = h.drain_is ∙ waits plan s s.drain (ap is_some (sym h.drain_is) ∙ none)
+          (sym (may_is plan s b h) ∙ not_yet);
       bank = refl;
       slot = refl;
       gather = refl;
     }
 
-pub begins_anew : (plan : BankPlan) (s : BankState) (b : BankParts) (d : Option Draining) → StandsFor plan s b
-    → is_some b.drain ≡ false
+pub begins_anew : (plan : BankPlan) (s : BankState) (b : BankParts) (d : Option Draining) → StandsFor plan s b →
+    is_some b.drain ≡ false
     → (b.bank.asks && is_free b.slot) ≡ true → d ≡ Some fresh_drain → Begins plan s b (record b { drain = d })
 begins_anew plan s b d h none may fresh =
     record {
@@ -146,8 +146,8 @@ begins_anew plan s b d h none may fresh =
     }
 
 -- a drain that begins has taken no record, and has room in a free slot
-pub fresh_fits : (d : Option Draining) (got : RecordCopy) (bank : BankView) → d ≡ Some fresh_drain
-    → FitsWhere d got bank
+pub fresh_fits : (d : Option Draining) (got : RecordCopy) (bank : BankView) → d ≡ Some fresh_drain →
+    FitsWhere d got bank
 unfolding has_record
 fresh_fits d got bank is = subst (λ x. FitsWhere x got bank) (sym is) (λ has. absurd (true≢false (sym has)))
 
@@ -158,8 +158,8 @@ empty_slot false [] h = refl
 empty_slot true (copy ∷ slot) h = absurd (true≢false (sym h))
 empty_slot false (copy ∷ slot) h = absurd (true≢false (sym h))
 
-pub fresh_room : (d : Option Draining) (asking : Bool) (slot : List RecordCopy) → d ≡ Some fresh_drain
-    → (asking && is_free slot) ≡ true → HasRoom d slot
+pub fresh_room : (d : Option Draining) (asking : Bool) (slot : List RecordCopy) → d ≡ Some fresh_drain →
+    (asking && is_free slot) ≡ true → HasRoom d slot
 fresh_room d asking slot is may =
     subst (λ x. HasRoom x slot) (sym is) (omega (arith, ap length (empty_slot asking slot may)))
 
@@ -169,8 +169,8 @@ idles : (plan : BankPlan) (s : BankState) (d : Option Draining) → is_some d �
 idles plan s None h = refl
 idles plan s (Some d) h = absurd (true≢false h)
 
-pub no_step : (plan : BankPlan) (s : BankState) (old new : BankParts) → Begins plan s old new
-    → is_some new.drain ≡ false → bank_step plan s Drains ≡ None
+pub no_step : (plan : BankPlan) (s : BankState) (old new : BankParts) → Begins plan s old new → is_some new.drain
+    ≡ false → bank_step plan s Drains ≡ None
 unfolding bank_step
 no_step plan s old new b none = idles plan s (due_drain plan s s.drain) (ap is_some (sym b.drain) ∙ none)
 
@@ -179,8 +179,8 @@ pub found : (d : Option Draining) → is_some d ≡ true → (x : Draining) × (
 found None h = absurd (true≢false (sym h))
 found (Some x) h = (x, refl)
 
-pub at_begun : (plan : BankPlan) (s : BankState) (old new : BankParts) → StandsFor plan s old
-    → Begins plan s old new → IsAt plan s new.bank new.slot
+pub at_begun : (plan : BankPlan) (s : BankState) (old new : BankParts) → StandsFor plan s old →
+    Begins plan s old new → IsAt plan s new.bank new.slot
 at_begun plan s old new h b =
     record {
       stands = subst (BankStands plan.origins s.history) (sym b.bank) h.stands;
@@ -188,8 +188,8 @@ at_begun plan s old new h b =
     }
 
 pub draws : (plan : BankPlan) (s : BankState) (old mid new : BankParts) (d : Draining) (rec : ℕ) (note : DrainNote)
-    → Begins plan s old mid → mid.drain ≡ Some d → Advances plan s d new rec note
-    → Makes plan s Drains (Drew rec note) new
+    → Begins plan s old mid → mid.drain ≡ Some d → Advances plan s d new rec note →
+    Makes plan s Drains (Drew rec note) new
 unfolding bank_step
 draws plan s old mid new d rec note b is a =
     let next = phase_step plan s d d.phase in

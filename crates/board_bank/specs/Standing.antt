@@ -1,12 +1,12 @@
--- When a bank with its slot and its drain is that of a plan in a state. This project's own, over the bank's steps of
--- the record book.
+-- When a bank with its slot and its drain is that of a plan in a state. This project's own, over the bank's steps
+-- of the record book.
 use Rattle.std.specs.Prelude.{◌≡◌, ℕ, List, Option, Some}
 use Rattle.reri_fields.specs.declared.report.RecordCopy.{RecordCopy}
 use Rattle.reri_fields.specs.Banks.{BankView, BankStands}
 use Rattle.reri_fields.specs.Drain.{BankPlan, BankState, BankTry, BankNote, Draining, bank_step}
 
--- what contracts see of it: the registers and the ask flag, the copies in the slot, the drain where one is under way,
--- and how many copies a drain gathers
+-- what contracts see of it: the registers and the ask flag, the copies in the slot, the drain where one is under
+-- way, and how many copies a drain gathers
 pub record BankParts : Type 0 where
   pub bank : BankView
   pub slot : List RecordCopy

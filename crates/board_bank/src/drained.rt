@@ -21,8 +21,8 @@ use std::marker::Model;
 /// The most copies that a drain gathers.
 pub const MAX_GATHERED: u8 = 4;
 
-/// A bank of error records with its slot and its drain. Contracts say of it what they say of each bank of a plan and
-/// each state that it stands for.
+/// A bank of error records with its slot and its drain. Contracts say of it what they say of each
+/// bank of a plan and each state that it stands for.
 #[derive(Drop)]
 pub struct BoardBank {
     bank: Bank,
@@ -43,19 +43,19 @@ impl Model for BoardBank {
 }
 
 impl BoardBank {
-    /// A bank of records with these control words and starting counts, to which nothing has happened yet. A drain of
-    /// it gathers up to so many copies.
+    /// A bank of records with these control words and starting counts, to which nothing has
+    /// happened yet. A drain of it gathers up to so many copies.
     ///
-    /// There are 1 to 63 records, no control word has a bit outside its fields, and a drain gathers 1 to 4 copies.
-    /// `NoMemory` comes where no room was found for the records.
+    /// There are 1 to 63 records, no control word has a bit outside its fields, and a drain gathers
+    /// 1 to 4 copies. `NoMemory` comes where no room was found for the records.
     pub fn new(alloc: Global, start: &[(u64, u16)], gather: u8) -> Result<BoardBank, NoMemory>
         requires any { 0 < length start.now }
         requires room { length start.now ≤ MAX_RECORDS }
         requires controls { All (λ first. first.0 ≤ 0xff) start.now }
         requires some { 1 ≤ gather }
         requires few { gather ≤ MAX_GATHERED }
-        ensures { IfOk result (λ b. StandsFor (record { origins = map origin_of start.now; gather = gather })
-            bank_start b) }
+        ensures { IfOk result
+            (λ b. StandsFor (record { origins = map origin_of start.now; gather = gather }) bank_start b) }
     {
         let bank = Bank::new(alloc, start)?;
         Ok(BoardBank {
@@ -101,8 +101,8 @@ impl BoardBank {
         self.bank.asks() && self.slot.is_free()
     }
 
-    /// Logs an error into the record that it names, and says what became of it. None comes exactly where the bank has
-    /// no record of that number. The priority is at most 3.
+    /// Logs an error into the record that it names, and says what became of it. None comes exactly
+    /// where the bank has no record of that number. The priority is at most 3.
     pub fn report(&mut self, report: &Report) -> Option<Logged>
         requires { report.now.priority < 4 }
         ensures { (plan : BankPlan) (s : BankState) (step : ℕ) → AllLogsBefore step s.history
@@ -120,9 +120,10 @@ impl BoardBank {
         self.slot.acknowledge()
     }
 
-    /// Takes the next phase of the drain that is under way, or else the first of a new one where a drain may begin.
-    /// The answer is the record that the drain had taken before, which is 0 where it had none, and what the phase
-    /// did. None comes exactly where no drain is due; then nothing changes.
+    /// Takes the next phase of the drain that is under way, or else the first of a new one where a
+    /// drain may begin. The answer is the record that the drain had taken before, which is 0 where
+    /// it had none, and what the phase did. None comes exactly where no drain is due; then nothing
+    /// changes.
     pub fn step(&mut self) -> Option<(u8, DrainNote)>
         ensures { (plan : BankPlan) (s : BankState) → StandsFor plan s self.old
             → MatchOption result ((bank_step plan s Drains ≡ None) × (self.new ≡ self.old))

@@ -37,8 +37,8 @@ kept_there : (o : Option Op) (p : Placed) (q : ℕ) → (p.pc == q) ≡ false �
 kept_there None p q h = rw h refl
 kept_there (Some op) p q h = refl
 
-pub known_already : (ps : List Placed) (p : Placed) (q : ℕ) → is_some (op_at p.pc ps) ≡ true
-    → op_at q (ps ++ p ∷ []) ≡ op_at q ps
+pub known_already : (ps : List Placed) (p : Placed) (q : ℕ) → is_some (op_at p.pc ps) ≡ true → op_at q (ps ++ p ∷ [])
+    ≡ op_at q ps
 known_already ps p q h =
     op_at-added ps p q ∙ elim (cases_Bool (p.pc == q)) as (λ _. or_added (op_at q ps) p q ≡ op_at q ps) [
       | inl here ↦
@@ -63,8 +63,8 @@ none_of (Some op) h = absurd (true≢false h)
 pub first_there : (ps : List Placed) (p : Placed) (q : ℕ) → is_some (op_at p.pc ps) ≡ false
     → op_at q (ps ++ p ∷ []) ≡ cond (p.pc == q) (Some p.op) (op_at q ps)
 first_there ps p q h =
-    op_at-added ps p q ∙ elim (cases_Bool (p.pc == q)) as (λ _. or_added (op_at q ps) p q
-    ≡ cond (p.pc == q) (Some p.op) (op_at q ps)) [
+    op_at-added ps p q ∙ elim (cases_Bool (p.pc == q)) as
+    (λ _. or_added (op_at q ps) p q ≡ cond (p.pc == q) (Some p.op) (op_at q ps)) [
       | inl here ↦
           let e : p.pc ≡ q = grind (arith, nat_tests) in
           new_here (op_at q ps) p q (ap (λ at. op_at at ps) (sym e) ∙ none_of (op_at p.pc ps) h)

@@ -29,8 +29,8 @@ put_back (f ∷ fs) base = refl
 -- the triple in a hart's registers is its own
 same_triple : (s : Stack) → triple_in (regs_of s) ≡ top_triple s
 same_triple s =
-    ap (λ p. record { sepc = (top_triple s).sepc; spp = p; spie = (top_triple s).spie }) (same_privilege
-    (top_triple s).spp)
+    ap (λ p. record { sepc = (top_triple s).sepc; spp = p; spie = (top_triple s).spie })
+    (same_privilege (top_triple s).spp)
 
 -- a change of what is live alone
 live_set : (live : Context) (s : Stack) → over live (with_below (triple_in (regs_of s)) s.frames s.base)
@@ -47,8 +47,8 @@ register_set Sepc value s =
     (same_privilege (top_triple s).spp)
 register_set Spp value s = refl
 register_set Spie value s =
-    ap (λ p. over s.live (with_below (record { sepc = (top_triple s).sepc; spp = p; spie = is_odd value }) s.frames
-    s.base))
+    ap (λ p. over s.live (with_below
+    (record { sepc = (top_triple s).sepc; spp = p; spie = is_odd value }) s.frames s.base))
     (same_privilege (top_triple s).spp)
 register_set Sie value s = live_set (record s.live { sie = is_odd value }) s
 
@@ -65,17 +65,17 @@ return_made s =
     ap (λ p. over (record {
       pc = (top_triple s).sepc;
       privilege = p;
-      sie =
-          (top_triple s).spie;
+      sie = (top_triple s).spie;
       a6 = s.live.a6;
-      a7 = s.live.a7;
+      a7 =
+          s.live.a7;
     })
     (with_below (record { sepc = (top_triple s).sepc; spp = User; spie = true }) s.frames s.base))
     (same_privilege (top_triple s).spp)
 
 -- what is put below the handlers is what stands below them
-set_below : (t : Triple) (fs : List Frame) (base : Triple) → below (with_below t fs base).frames
-    (with_below t fs base).base ≡ t
+set_below : (t : Triple) (fs : List Frame) (base : Triple) →
+    below (with_below t fs base).frames (with_below t fs base).base ≡ t
 set_below t [] base = refl
 set_below t (f ∷ fs) base = refl
 

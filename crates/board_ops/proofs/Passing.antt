@@ -54,8 +54,8 @@ same_call : (h eid fid : ℕ) (args : List ℕ) (ss : List Stack) (x : Stack) (r
 same_call h eid fid args ss x r =
     ap (cond (not (eid == extension)) (refuse NotSupported r)) (same_known h (function_of fid) args ss x r)
 
-same_done : (h : ℕ) (ss : List Stack) (x : Stack) (r : Reach) (op : Op)
-    → own_done h (set ss h x) r op ≡ own_done h ss r op
+same_done : (h : ℕ) (ss : List Stack) (x : Stack) (r : Reach) (op : Op) → own_done h (set ss h x) r op
+    ≡ own_done h ss r op
 same_done h ss x r ops.Nop = refl
 same_done h ss x r (ops.Sbi eid fid args) = ap (called eid fid args) (same_call h eid fid args ss x r)
 same_done h ss x r (ops.Set reg value) = refl

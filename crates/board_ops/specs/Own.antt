@@ -1,5 +1,5 @@
 -- The ops that reach their hart and memory alone, as the board book defines each of them: all but `ack` and `unplug`.
--- This describes the code; the board's own clauses cite the book.
+-- `ack` and `unplug` reach further: here they only move the pc on.
 use Rattle.std.specs.Prelude.{ℕ, ◌&&◌, true, false, List, if◌then◌else◌}
 use Rattle.sse_base.specs.Contexts.{Stack, bit, privilege_at}
 use Rattle.sse_base.specs.Words.{load}

@@ -57,8 +57,8 @@ fn set(firmware: &mut Firmware, hart: u8, reg: Reg, value: u64) -> StepNote
 #[tactic(auto, using(crate::proofs::Levels::register_set, crate::proofs::Levels::register_kept, crate::proofs::Levels::stays))]
 fn load(firmware: &mut Firmware, hart: u8, reg: Reg, addr: u64) -> StepNote
     requires { hart < firmware.old.events.harts }
-    ensures { Executes hart firmware.old firmware.new result (loaded reg (reach hart firmware.old)
-        (load firmware.old.memory addr)) }
+    ensures { Executes hart firmware.old firmware.new result
+        (loaded reg (reach hart firmware.old) (load firmware.old.memory addr)) }
 {
     let Some(word) = firmware.memory().load(addr) else {
         return StepNote::Fault;
@@ -100,8 +100,8 @@ fn store(firmware: &mut Firmware, hart: u8, addr: u64, value: u64) -> StepNote
 #[tactic(auto, using(crate::proofs::Levels::stays))]
 fn inc(firmware: &mut Firmware, hart: u8, addr: u64) -> StepNote
     requires { hart < firmware.old.events.harts }
-    ensures { Executes hart firmware.old firmware.new result (risen addr (reach hart firmware.old)
-        (load firmware.old.memory addr)) }
+    ensures { Executes hart firmware.old firmware.new result
+        (risen addr (reach hart firmware.old) (load firmware.old.memory addr)) }
 {
     let Some(word) = firmware.memory().load(addr) else {
         return StepNote::Fault;
@@ -117,8 +117,8 @@ fn inc(firmware: &mut Firmware, hart: u8, addr: u64) -> StepNote
 #[tactic(auto, using(crate::proofs::Levels::stays))]
 fn jlt(firmware: &mut Firmware, hart: u8, addr: u64, value: u64, pc: u64) -> StepNote
     requires { hart < firmware.old.events.harts }
-    ensures { Executes hart firmware.old firmware.new result (jumped value pc (reach hart firmware.old)
-        (load firmware.old.memory addr)) }
+    ensures { Executes hart firmware.old firmware.new result
+        (jumped value pc (reach hart firmware.old) (load firmware.old.memory addr)) }
 {
     let Some(word) = firmware.memory().load(addr) else {
         return StepNote::Fault;
@@ -144,8 +144,8 @@ fn sret(firmware: &mut Firmware, hart: u8) -> StepNote
 /// A call of the firmware.
 fn sbi(firmware: &mut Firmware, hart: u8, eid: u64, fid: u64, args: [u64; 5]) -> StepNote
     requires { hart < firmware.old.events.harts }
-    ensures { Executes hart firmware.old firmware.new result (sbi hart eid fid args firmware.old.stacks
-        (reach hart firmware.old)) }
+    ensures { Executes hart firmware.old firmware.new result
+        (sbi hart eid fid args firmware.old.stacks (reach hart firmware.old)) }
 {
     let CallNote { reply, written } = firmware.call(hart, eid, fid, args);
     StepNote::Call {
@@ -162,8 +162,8 @@ fn sbi(firmware: &mut Firmware, hart: u8, eid: u64, fid: u64, args: [u64; 5]) ->
 #[tactic(auto, using(crate::proofs::Levels::stays))]
 fn execute(firmware: &mut Firmware, hart: u8, op: Op) -> StepNote
     requires { hart < firmware.old.events.harts }
-    ensures { Executes hart firmware.old firmware.new result (own_done hart firmware.old.stacks
-        (reach hart firmware.old) op) }
+    ensures { Executes hart firmware.old firmware.new result
+        (own_done hart firmware.old.stacks (reach hart firmware.old) op) }
 {
     match op {
         Op::Nop | Op::Ack { .. } | Op::Unplug { .. } => StepNote::Nop,
@@ -182,13 +182,14 @@ fn execute(firmware: &mut Firmware, hart: u8, op: Op) -> StepNote
     }
 }
 
-/// Makes the step of an op that stands at a hart's pc, and says what it did: the hart goes past the op, and executes
-/// it where its mode allows it; else the note is `Illegal`. `ack` and `unplug` reach further than their hart and
-/// memory: where they are allowed they do nothing here, and the note is `Nop`.
+/// Makes the step of an op that stands at a hart's pc, and says what it did: the hart goes past the
+/// op, and executes it where its mode allows it; else the note is `Illegal`. `ack` and `unplug`
+/// reach further than their hart and memory: where they are allowed they do nothing here, and the
+/// note is `Nop`.
 pub fn step(firmware: &mut Firmware, hart: u8, op: Op) -> StepNote
     requires { hart < firmware.old.events.harts }
-    ensures { Executes hart firmware.old firmware.new result (own_step hart firmware.old.stacks
-        (reach hart firmware.old) op) }
+    ensures { Executes hart firmware.old firmware.new result
+        (own_step hart firmware.old.stacks (reach hart firmware.old) op) }
 {
     let _harts = firmware.harts();
     let illegal = is_illegal(firmware, hart, &op);

@@ -1,5 +1,5 @@
-//! The ops of a supervisor's program: what each does to its hart and to memory, on the firmware of a board, and which
-//! op stands at an address.
+//! The ops of a supervisor's program: what each does to its hart and to memory, on the firmware of
+//! a board, and which op stands at an address.
 #![tactic(auto)]
 
 mod executing;

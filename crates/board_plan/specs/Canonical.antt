@@ -1,6 +1,6 @@
--- The canonical text of a plan: each statement once, in one order, each number in decimal. This project's own.
--- The statements stand in this order: the board; events; each bank with its `plat` and its `gather`; records; ops; starts;
--- reporters, each with its acts; the schedule.
+-- The canonical text of a plan: each statement once, in one order, each number in decimal. This project's own. The
+-- statements stand in this order: the board; events; each bank with its `plat` and its `gather`; records; ops;
+-- starts; reporters, each with its acts; the schedule.
 use Rattle.std.specs.Prelude.{ℕ, ◌+◌, ◌==◌, ◌&&◌, not, Bool, if◌then◌else◌}
 use Rattle.std.specs.Prelude.{List, [], ◌∷◌, ◌++◌, map, length, Option, Some, None, codes, decimal}
 use Rattle.std.specs.List.{join_with_byte}
@@ -30,19 +30,20 @@ lines_text (ws ∷ wss) = line_text ws ++ lines_text wss
 
 -- ---- The board, events and banks ----
 
-unfoldable pub board_line : ℕ → ℕ → List (List ℕ)
+abbrev pub board_line : ℕ → ℕ → List (List ℕ)
 board_line version harts = codes "board" ∷ decimal version ∷ decimal harts ∷ []
 
 unfoldable pub event_line : EventDecl → List (List ℕ)
 event_line e = codes "event" ∷ decimal e.id.0 ∷ choice_word (codes "inject") (codes "noinject") e.inject ∷ []
 
 unfoldable pub bank_line : BankDecl → List (List ℕ)
-bank_line b = codes "bank" ∷ decimal b.home ∷ choice_word (codes "global") (codes "local") b.global ∷ decimal b.recs ∷ []
+bank_line b = codes "bank" ∷ decimal b.home ∷ choice_word (codes "global") (codes "local") b.global ∷ decimal b.recs
+    ∷ []
 
-unfoldable pub plat_line : ℕ → ℕ → List (List ℕ)
+abbrev pub plat_line : ℕ → ℕ → List (List ℕ)
 plat_line n id = codes "plat" ∷ decimal n ∷ decimal id ∷ []
 
-unfoldable pub gather_line : ℕ → ℕ → List (List ℕ)
+abbrev pub gather_line : ℕ → ℕ → List (List ℕ)
 gather_line n gather = codes "gather" ∷ decimal n ∷ decimal gather ∷ []
 
 unfoldable pub plat_lines : ℕ → Option ℕ → List (List (List ℕ))
@@ -50,9 +51,11 @@ plat_lines n None = []
 plat_lines n (Some id) = plat_line n id ∷ []
 
 -- version 1 has no gather numbers, and in version 2 the usual one is 4
+abbrev pub has_gather : ℕ → ℕ → Bool
+has_gather version gather = (version == 2) && not (gather == 4)
+
 unfoldable pub gather_lines : ℕ → ℕ → ℕ → List (List (List ℕ))
-gather_lines version n gather =
-    if (version == 2) && not (gather == 4) then gather_line n gather ∷ [] else []
+gather_lines version n gather = if has_gather version gather then gather_line n gather ∷ [] else []
 
 unfoldable pub lines_of_bank : ℕ → ℕ → BankDecl → List (List (List ℕ))
 lines_of_bank version n b = bank_line b ∷ plat_lines n b.plat ++ gather_lines version n b.gather
@@ -84,7 +87,7 @@ op_words (Unplug reporter) = codes "unplug" ∷ decimal reporter ∷ []
 unfoldable pub op_line : Op → List (List ℕ)
 op_line op = codes "op" ∷ op_words op
 
-unfoldable pub at_line : ℕ → List (List ℕ)
+abbrev pub at_line : ℕ → List (List ℕ)
 at_line pc = codes "at" ∷ decimal pc ∷ []
 
 -- an `at`, where the op doesn't stand at the next address
@@ -113,7 +116,7 @@ act_words (Raise id hart) = codes "raise" ∷ decimal id ∷ decimal hart ∷ []
 unfoldable pub act_line : ℕ → Act → List (List ℕ)
 act_line n act = codes "act" ∷ decimal n ∷ act_words act
 
-unfoldable pub list_line : List (List ℕ)
+abbrev pub list_line : List (List ℕ)
 list_line = codes "reporter" ∷ codes "list" ∷ []
 
 unfoldable pub device_line : ℕ → ℕ → List (List ℕ)

@@ -1,5 +1,5 @@
--- The board book, in reading order: scripts and the text of notes, a board's state, its steps and runs, fates and reports,
--- and what is safe in every run.
+-- The board book, in reading order: scripts and the text of notes, a board's state, its steps and runs, fates and
+-- reports, and what is safe in every run.
 pub mod Words
 pub mod OpForms
 pub mod Script

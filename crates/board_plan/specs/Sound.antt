@@ -181,7 +181,7 @@ EachSignalledAsks plan s =
 
 -- ---- 8: a drain's record stays valid, and its slot holds its own copies ----
 
--- from the Scan that took a record up to the Invalidate
+-- the phases of a drain that has taken a record and not left it yet
 abbrev pub has_record : Phase → Bool
 has_record Scan = false
 has_record Signal = false
@@ -248,7 +248,8 @@ pub record IsUnderInvalidate (x : BankState) (place : ℕ) (p : Publication) (or
 abbrev pub EachShownPublishedIsUnderInvalidate : Plan → BoardState → Type 0
 EachShownPublishedIsUnderInvalidate plan s =
     (bank place : ℕ) (d : BankDecl) (x : BankState) (p : Publication) (e : Error) (origin : Origin)
-    → IsThere plan s bank d x → slice_get x.published place ≡ Some p → p.shown ≡ Some e → slice_get (origins_of plan bank d) p.rec ≡ Some origin
+    → IsThere plan s bank d x → slice_get x.published place ≡ Some p → p.shown ≡ Some e →
+    slice_get (origins_of plan bank d) p.rec ≡ Some origin
     → shown (errors_at origin p.rec x.history) ≡ Some e → IsUnderInvalidate x place p origin
 
 -- ---- All nine ----

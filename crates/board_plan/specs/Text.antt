@@ -159,7 +159,8 @@ drain_text (Some d) = phase_text d.phase ++ 32 ∷ decimal d.rec
 unfoldable pub bank_line : ℕ → BankDecl → List Origin → BankState → List ℕ
 bank_line bank d origins s =
     codes "bank " ++ decimal bank ++ field (codes "home") (decimal d.home)
-    ++ field (codes "scope") (scope_text d.global) ++ field (codes "asks") (bit_text (asks origins s.history)) ++ field (codes "block") (slot_text s.slot)
+    ++ field (codes "scope") (scope_text d.global) ++ field (codes "asks") (bit_text (asks origins s.history))
+    ++ field (codes "block") (slot_text s.slot)
     ++ field (codes "drain") (drain_text s.drain)
 
 unfoldable pub record_line : ℕ → ℕ → RecordCopy → List ℕ

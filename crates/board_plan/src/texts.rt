@@ -102,7 +102,8 @@ fn slot_word(was: Option<bool>) -> &'static [u8]
 /// `NAME BANK RECORD`
 fn put_record<K: Sink>(line: &mut Line<'_, K>, name: &[u8], bank: u8, rec: u8)
     requires { length (text_of line.old) + length name.now + 42 ≤ 512 }
-    ensures text { text_of line.new ≡ text_of line.old ++ join_with_byte 32 (name.now ∷ decimal bank ∷ decimal rec ∷ []) }
+    ensures text { text_of line.new
+        ≡ text_of line.old ++ join_with_byte 32 (name.now ∷ decimal bank ∷ decimal rec ∷ []) }
     ensures room { length (text_of line.new) ≤ length (text_of line.old) + length name.now + 42 }
     ensures sink { sink_of line.new ≡ sink_of line.old }
     ensures same_sink { SameSink line.new line.old }
@@ -140,7 +141,8 @@ fn put_hex_note<K: Sink>(line: &mut Line<'_, K>, name: &[u8], value: u64)
 /// `NAME ADDR VALUE`, both in hexadecimal.
 fn put_word_note<K: Sink>(line: &mut Line<'_, K>, name: &[u8], addr: u64, value: u64)
     requires { length (text_of line.old) + length name.now + 38 ≤ 512 }
-    ensures text { text_of line.new ≡ text_of line.old ++ join_with_byte 32 (name.now ∷ hexadecimal addr ∷ hexadecimal value ∷ []) }
+    ensures text { text_of line.new
+        ≡ text_of line.old ++ join_with_byte 32 (name.now ∷ hexadecimal addr ∷ hexadecimal value ∷ []) }
     ensures room { length (text_of line.new) ≤ length (text_of line.old) + length name.now + 38 }
     ensures sink { sink_of line.new ≡ sink_of line.old }
     ensures same_sink { SameSink line.new line.old }
@@ -152,7 +154,8 @@ fn put_word_note<K: Sink>(line: &mut Line<'_, K>, name: &[u8], addr: u64, value:
 /// `NAME REG VALUE`, the value in hexadecimal.
 fn put_reg_note<K: Sink>(line: &mut Line<'_, K>, name: &[u8], reg: Reg, value: u64)
     requires { length (text_of line.old) + length name.now + 24 ≤ 512 }
-    ensures text { text_of line.new ≡ text_of line.old ++ join_with_byte 32 (name.now ∷ reg_word reg ∷ hexadecimal value ∷ []) }
+    ensures text { text_of line.new
+        ≡ text_of line.old ++ join_with_byte 32 (name.now ∷ reg_word reg ∷ hexadecimal value ∷ []) }
     ensures room { length (text_of line.new) ≤ length (text_of line.old) + length name.now + 24 }
     ensures sink { sink_of line.new ≡ sink_of line.old }
     ensures same_sink { SameSink line.new line.old }
@@ -165,7 +168,8 @@ fn put_reg_note<K: Sink>(line: &mut Line<'_, K>, name: &[u8], reg: Reg, value: u
 /// `NAME NUMBER WORD`
 fn put_word_of<K: Sink>(line: &mut Line<'_, K>, name: &[u8], number: u8, word: &[u8])
     requires { length (text_of line.old) + length name.now + length word.now + 22 ≤ 512 }
-    ensures text { text_of line.new ≡ text_of line.old ++ join_with_byte 32 (name.now ∷ decimal number ∷ word.now ∷ []) }
+    ensures text { text_of line.new
+        ≡ text_of line.old ++ join_with_byte 32 (name.now ∷ decimal number ∷ word.now ∷ []) }
     ensures room { length (text_of line.new) ≤ length (text_of line.old) + length name.now + length word.now + 22 }
     ensures sink { sink_of line.new ≡ sink_of line.old }
     ensures same_sink { SameSink line.new line.old }
@@ -178,7 +182,8 @@ fn put_word_of<K: Sink>(line: &mut Line<'_, K>, name: &[u8], number: u8, word: &
 /// What a Scan found.
 fn put_scan<K: Sink>(line: &mut Line<'_, K>, bank: u8, rec: Option<u8>)
     requires { length (text_of line.old) + 46 ≤ 512 }
-    ensures text { text_of line.new ≡ text_of line.old ++ join_with_byte 32 (codes "scan" ∷ decimal bank ∷ scanned_word rec ∷ []) }
+    ensures text { text_of line.new
+        ≡ text_of line.old ++ join_with_byte 32 (codes "scan" ∷ decimal bank ∷ scanned_word rec ∷ []) }
     ensures room { length (text_of line.new) ≤ length (text_of line.old) + 46 }
     ensures sink { sink_of line.new ≡ sink_of line.old }
     ensures same_sink { SameSink line.new line.old }
@@ -259,7 +264,8 @@ fn put_call<K: Sink>(
     written: &[u64; 10],
 )
     requires { length (text_of line.old) + 352 ≤ 512 }
-    ensures text { text_of line.new ≡ text_of line.old ++ join_with_byte 32 (call_words eid fid args.now code written.now) }
+    ensures text { text_of line.new
+        ≡ text_of line.old ++ join_with_byte 32 (call_words eid fid args.now code written.now) }
     ensures room { length (text_of line.new) ≤ length (text_of line.old) + 352 }
     ensures sink { sink_of line.new ≡ sink_of line.old }
     ensures same_sink { SameSink line.new line.old }
@@ -350,7 +356,8 @@ fn put_raise<K: Sink>(line: &mut Line<'_, K>, id: u32, hart: u8, signalled: bool
     ensures text { text_of line.new
         ≡ text_of line.old
         ++ join_with_byte 32
-        (codes "raise" ∷ hexadecimal id ∷ decimal hart ∷ choice_word (codes "signalled") (codes "stray") signalled ∷ []) }
+        (codes "raise" ∷ hexadecimal id ∷ decimal hart
+        ∷ choice_word (codes "signalled") (codes "stray") signalled ∷ []) }
     ensures room { length (text_of line.new) ≤ length (text_of line.old) + 60 }
     ensures sink { sink_of line.new ≡ sink_of line.old }
     ensures same_sink { SameSink line.new line.old }

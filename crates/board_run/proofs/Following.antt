@@ -21,7 +21,8 @@ some_piece [] = ([], [], refl)
 some_piece (b ∷ t) = with_front b (is_byte 10 b) (pieces t) (some_piece t)
 
 -- only the empty text has nothing but an empty piece
-not_end : (b : ℕ) (ends : Bool) (ps : List (List ℕ)) → IsSome ps → is_end (cond ends ([] ∷ ps) (onto_first b ps)) ≡ false
+not_end : (b : ℕ) (ends : Bool) (ps : List (List ℕ)) → IsSome ps → is_end (cond ends ([] ∷ ps) (onto_first b ps))
+    ≡ false
 not_end b true ps s = ap (λ qs. is_end ([] ∷ qs)) s.2
 not_end b false ps s = ap (λ qs. is_end (onto_first b qs)) s.2
 
@@ -30,13 +31,15 @@ is_end-pieces [] h = absurd (omega arith)
 is_end-pieces (b ∷ t) h = not_end b (is_byte 10 b) (pieces t) (some_piece t)
 
 -- the last line is the start
-at_end : (h : Half) (line after : List ℕ) → length after ≡ 0 → following h (line ∷ pieces after) ≡ start_line h (fields line)
+at_end : (h : Half) (line after : List ℕ) → length after ≡ 0 → following h (line ∷ pieces after)
+    ≡ start_line h (fields line)
 unfolding following
 at_end h line [] e = refl
 at_end h line (b ∷ t) e = absurd (omega (arith, e))
 
 -- every other line goes on
-before_end : (h : Half) (line after : List ℕ) → 0 < length after → following h (line ∷ pieces after) ≡ (middle_line h (fields line) >>= λ k. following k (pieces after))
+before_end : (h : Half) (line after : List ℕ) → 0 < length after → following h (line ∷ pieces after)
+    ≡ (middle_line h (fields line) >>= λ k. following k (pieces after))
 unfolding following
 before_end h line after e = let n = is_end-pieces after e in rw n
 
@@ -51,27 +54,35 @@ unfolding following
 unended h line = none_after (middle_line h (fields line))
 
 -- the same for the text that is left, cut at its first newline
-pub start-is : (h : Half) (rest line after : List ℕ) (words : List (List ℕ)) (wanted : Option Plan) (r : Result Script ReadFault) →
-    following h (pieces rest) ≡ wanted → pieces rest ≡ line ∷ pieces after → length after ≡ 0 → words ≡ fields line → GivesPlan r (start_line h words) → GivesPlan r wanted
+pub start-is : (h : Half) (rest line after : List ℕ) (words : List (List ℕ)) (wanted : Option Plan)
+    (r : Result Script ReadFault) →
+    following h (pieces rest) ≡ wanted → pieces rest ≡ line ∷ pieces after → length after ≡ 0 → words ≡ fields line
+    → GivesPlan r (start_line h words) → GivesPlan r wanted
 start-is h rest line after words wanted r goes_on cut ends same given =
-    subst (GivesPlan r) (ap (start_line h) same ∙ sym (at_end h line after ends) ∙ ap (following h) (sym cut) ∙ goes_on) given
+    subst (GivesPlan r) (ap (start_line h) same ∙ sym (at_end h line after ends) ∙ ap (following h) (sym cut)
+    ∙ goes_on) given
 
 pub goes-on : (h k : Half) (rest line after : List ℕ) (words : List (List ℕ)) (wanted : Option Plan) →
-    following h (pieces rest) ≡ wanted → pieces rest ≡ line ∷ pieces after → 0 < length after → words ≡ fields line → middle_line h words ≡ Some k → following k (pieces after) ≡ wanted
+    following h (pieces rest) ≡ wanted → pieces rest ≡ line ∷ pieces after → 0 < length after → words ≡ fields line
+    → middle_line h words ≡ Some k → following k (pieces after) ≡ wanted
 goes-on h k rest line after words wanted goes_on cut more same moved =
-    sym (ap (λ m. m >>= λ q. following q (pieces after)) (ap (middle_line h) (sym same) ∙ moved)) ∙ sym (before_end h line after more) ∙ ap (following h) (sym cut) ∙ goes_on
+    sym (ap (λ m. m >>= λ q. following q (pieces after)) (ap (middle_line h) (sym same) ∙ moved))
+    ∙ sym (before_end h line after more) ∙ ap (following h) (sym cut) ∙ goes_on
 
 fails_then : (e : ReadFault) (m : Option Half) (f : Half → Option Plan) → Fails e m → Fails e (m >>= f)
 fails_then NotFirstForm m f h = ap (λ o. o >>= f) h
 fails_then NoMemory m f h = tt
 
 pub fails-there : (h : Half) (rest line after : List ℕ) (words : List (List ℕ)) (wanted : Option Plan) (e : ReadFault) →
-    following h (pieces rest) ≡ wanted → pieces rest ≡ line ∷ pieces after → 0 < length after → words ≡ fields line → Fails e (middle_line h words) → Fails e wanted
+    following h (pieces rest) ≡ wanted → pieces rest ≡ line ∷ pieces after → 0 < length after → words ≡ fields line
+    → Fails e (middle_line h words) → Fails e wanted
 fails-there h rest line after words wanted e goes_on cut more same failed =
     subst (Fails e) (sym (before_end h line after more) ∙ ap (following h) (sym cut) ∙ goes_on)
-    (fails_then e (middle_line h (fields line)) (λ q. following q (pieces after)) (subst (λ ws. Fails e (middle_line h ws)) same failed))
+    (fails_then e (middle_line h (fields line)) (λ q. following q (pieces after))
+    (subst (λ ws. Fails e (middle_line h ws)) same failed))
 
-pub nothing-left : (h : Half) (rest : List ℕ) (wanted : Option Plan) → following h (pieces rest) ≡ wanted → pieces rest ≡ rest ∷ [] → wanted ≡ None
+pub nothing-left : (h : Half) (rest : List ℕ) (wanted : Option Plan) → following h (pieces rest) ≡ wanted
+    → pieces rest ≡ rest ∷ [] → wanted ≡ None
 nothing-left h rest wanted goes_on cut = sym goes_on ∙ ap (following h) cut ∙ unended h rest
 
 either : (b : Bool) → ◌≡◌ {A = Option Plan} (cond b None None) None
@@ -79,6 +90,7 @@ either true = refl
 either false = refl
 
 -- one newline is too few
-pub one-line : (first rest text : List ℕ) → pieces text ≡ first ∷ pieces rest → pieces rest ≡ rest ∷ [] → first_form text ≡ None
+pub one-line : (first rest text : List ℕ) → pieces text ≡ first ∷ pieces rest → pieces rest ≡ rest ∷ []
+    → first_form text ≡ None
 unfolding first_form from_pieces following
 one-line first rest text p q = rw (p, q) (either _)

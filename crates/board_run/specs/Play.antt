@@ -21,7 +21,8 @@ is_command words = false
 abbrev pub limit : ℕ
 limit = 1048576
 
--- The bytes are the report of a text: it reads as a plan, and they are the full report of the plan's run over its rounds.
+-- The bytes are the report of a text: it reads as a plan, and they are the full report of the plan's run over its
+-- rounds.
 pub record IsReport (text bytes : List ℕ) : Type 0 where
   pub plan : Plan
   pub tries : List Step
@@ -52,10 +53,20 @@ answer_to text = if nat_lt limit (length text) then answers.TooLong else answer_
 -- it is that answer, or memory is wanting, or the sink failed under the report of a text that is read
 abbrev pub Answers : List ℕ → Status → Type 0
 Answers text status =
-    (status ≡ answers.NoMemory) ⊎ (status ≡ answer_to text) ⊎ ((status ≡ answers.WriteFault) × (answer_to text ≡ answers.Ok))
+    (status ≡ answers.NoMemory) ⊎ (status ≡ answer_to text)
+    ⊎ ((status ≡ answers.WriteFault) × (answer_to text ≡ answers.Ok))
 
 -- every answer before which nothing is written
 abbrev pub is_silent : Status → Bool
 is_silent answers.Ok = false
 is_silent answers.WriteFault = false
 is_silent status = true
+
+-- the answers that tell of a fault, of the source and of the sink
+abbrev pub is_read_fault : Status → Bool
+is_read_fault answers.ReadFault = true
+is_read_fault status = false
+
+abbrev pub is_write_fault : Status → Bool
+is_write_fault answers.WriteFault = true
+is_write_fault status = false

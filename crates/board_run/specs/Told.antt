@@ -24,6 +24,8 @@ told_lines h number (t ∷ ts) = told_line h number t.0 t.1 ∷ told_lines h (nu
 -- the report by what it tells of, part by part
 abbrev pub report_of : Counts → Bool → Stack → Events → List ℕ → List Step → List ℕ
 report_of c masked s events words steps =
-    bytes_of (head_line 1 (length steps) ∷ []) ++ (bytes_of (hart_line 0 c masked s ∷ []) ++ (bytes_of (frame_lines 0 s.frames s.base)
-    ++ (bytes_of (map event_line (slots events)) ++ (bytes_of (fates_line ∷ []) ++ (bytes_of (word_lines 0x80000000 words)
+    bytes_of (head_line 1 (length steps) ∷ []) ++ (bytes_of (hart_line 0 c masked s ∷ [])
+    ++ (bytes_of (frame_lines 0 s.frames s.base)
+    ++ (bytes_of (map event_line (slots events))
+    ++ (bytes_of (fates_line ∷ []) ++ (bytes_of (word_lines 0x80000000 words)
     ++ (bytes_of (schedule_lines steps) ++ bytes_of (end_line ∷ [])))))))

@@ -45,7 +45,8 @@ impl Model for Board {
 
     ghost view = { λ b. board_of b.firmware b.counts };
 
-    ghost invariant = { λ b. (b.firmware.events.harts ≡ 1) × (b.counts.calls ≤ b.counts.steps) × (b.counts.failed ≤ b.counts.steps) };
+    ghost invariant = { λ b. (b.firmware.events.harts ≡ 1) × (b.counts.calls ≤ b.counts.steps)
+        × (b.counts.failed ≤ b.counts.steps) };
 }
 
 const SOFTWARE: EventDecl = EventDecl {
@@ -86,7 +87,8 @@ fn go_past(firmware: &mut Firmware)
 fn inc(firmware: &mut Firmware, addr: u64) -> StepNote
     requires { firmware.old.events.harts ≡ 1 }
     ensures note { result ≡ (risen addr (load firmware.old.memory addr) (past (reach 0 firmware.old))).note }
-    ensures next { firmware.new ≡ placed 0 (risen addr (load firmware.old.memory addr) (past (reach 0 firmware.old))).reach firmware.old }
+    ensures next { firmware.new
+        ≡ placed 0 (risen addr (load firmware.old.memory addr) (past (reach 0 firmware.old))).reach firmware.old }
     ensures harts { firmware.new.events.harts ≡ 1 }
 {
     go_past(firmware);
@@ -103,7 +105,8 @@ fn inc(firmware: &mut Firmware, addr: u64) -> StepNote
 fn sbi(firmware: &mut Firmware, eid: u64, fid: u64, args: [u64; 5]) -> StepNote
     requires { firmware.old.events.harts ≡ 1 }
     ensures note { result ≡ (sbi 0 eid fid args firmware.old.stacks (reach 0 firmware.old)).note }
-    ensures next { firmware.new ≡ placed 0 (sbi 0 eid fid args firmware.old.stacks (reach 0 firmware.old)).reach firmware.old }
+    ensures next { firmware.new ≡ placed 0 (sbi 0 eid fid args firmware.old.stacks (reach 0 firmware.old)).reach
+        firmware.old }
     ensures harts { firmware.new.events.harts ≡ 1 }
 {
     let _harts = firmware.harts();
@@ -174,7 +177,11 @@ impl Board {
     /// Counts a step.
     fn count(&mut self, note: &StepNote)
         requires { self.old.steps < 10000 }
-        ensures { self.new ≡ record { machine = self.old.machine; counts = counted note.now (counts_of 0 self.old) ∷ []; steps = self.old.steps + 1 } }
+        ensures { self.new ≡ record {
+          machine = self.old.machine;
+          counts = counted note.now (counts_of 0 self.old) ∷ [];
+          steps = self.old.steps + 1;
+        } }
     {
         let steps = self.counts.steps;
         if let StepNote::Call { code, .. } = note {

@@ -3,8 +3,9 @@
 ghost use Rattle.std.specs.Prelude.{◌≡◌, ◌↔◌, ℕ, ◌<◌, true, false, None, IfSome, length};
 ghost use Rattle.std.specs.Io.KnownBytes.{IsAtEnd};
 ghost use Rattle.ras_io.specs.Causes.{Rose};
+ghost use Rattle.ras_io.specs.Whole.{TakesOneTooMany};
 ghost use Rattle.first_form.specs.FirstForm.{first_form};
-ghost use Rattle.board_run.specs.Play.{is_command, limit, WritesReport, WritesFront, Answers, is_silent};
+ghost use Rattle.board_run.specs.Play.{is_command, limit, WritesReport, WritesFront, Answers, is_silent, is_read_fault, is_write_fault};
 
 use crate::reading::{ReadFault, read};
 use crate::report::write_report;
@@ -38,17 +39,24 @@ pub fn play<S: Source, K: Sink>(
     sink: &mut K,
 ) -> Status
     // The whole report of the text is appended, and nothing is left in the source.
-    ensures ok { result ≡ Status.Ok → IfSome (S.left source.old) (λ text. WritesReport text (K.written sink.old) (K.written sink.new)) }
+    ensures ok { result ≡ Status.Ok
+        → IfSome (S.left source.old) (λ text. WritesReport text (K.written sink.old) (K.written sink.new)) }
     ensures ended { result ≡ Status.Ok → IsAtEnd (S.left source.new) }
 
     // Why each other answer comes.
     ensures usage { (result ≡ Status.Usage) ↔ (is_command words.now ≡ false) }
     ensures read_fault { result ≡ Status.ReadFault → Rose (S.faults source.old) (S.faults source.new) }
     ensures too_long { result ≡ Status.TooLong → IfSome (S.left source.old) (λ text. limit < length text) }
+    ensures one_too_many { result ≡ Status.TooLong → TakesOneTooMany (S.left source.old) (S.left source.new) limit }
     ensures bad_script { (line : ℕ) (kind : LineFault) → result ≡ Status.BadScript line kind →
         IfSome (S.left source.old) (λ text. (first_form text ≡ None) × (result ≡ Status.BadScript 1 LineFault.Head)) }
     ensures write_fault { result ≡ Status.WriteFault → Rose (K.faults sink.old) (K.faults sink.new) }
-    ensures front { result ≡ Status.WriteFault → IfSome (S.left source.old) (λ text. WritesFront text (K.written sink.old) (K.written sink.new)) }
+    ensures front { result ≡ Status.WriteFault
+        → IfSome (S.left source.old) (λ text. WritesFront text (K.written sink.old) (K.written sink.new)) }
+
+    // No fault is passed over.
+    ensures source_kept { is_read_fault result ≡ false → S.faults source.new ≡ S.faults source.old }
+    ensures sink_kept { is_write_fault result ≡ false → K.faults sink.new ≡ K.faults sink.old }
 
     // Before every answer but Ok and WriteFault nothing is written, and before Usage nothing is read.
     ensures silent { is_silent result ≡ true → sink.new ≡ sink.old }

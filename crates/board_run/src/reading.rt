@@ -84,7 +84,8 @@ fn without_first(text: &[u8]) -> &[u8]
 #[tactic(auto, using(crate::proofs::Cuts::cuts))]
 fn cut(text: &[u8], byte: u8) -> Option<(&[u8], &[u8])>
     ensures none { IfNone result (slice_split (is_byte byte) text.now ≡ text.now ∷ []) }
-    ensures some { IfSome result (λ p. slice_split (is_byte byte) text.now ≡ p.0.now ∷ slice_split (is_byte byte) p.1.now) }
+    ensures some { IfSome result (λ p. slice_split (is_byte byte) text.now ≡ p.0.now
+        ∷ slice_split (is_byte byte) p.1.now) }
     ensures shorter { IfSome result (λ p. length p.1.now < length text.now) }
 {
     let at = place_of(text, byte);

@@ -77,7 +77,8 @@ fn write_events<K: Sink>(line: &mut Line<'_, K>, table: &Table) -> Result<(), Si
 fn write_word<K: Sink>(line: &mut Line<'_, K>, addr: u64, word: u64) -> Result<(), SinkFault>
     requires { text_of line.old ≡ [] }
     ensures empty { text_of line.new ≡ [] }
-    ensures bytes { Puts (K.written (sink_of line.old)) (K.written (sink_of line.new)) result (bytes_of (word_lines addr (word ∷ []))) }
+    ensures bytes { Puts (K.written (sink_of line.old)) (K.written (sink_of line.new)) result
+        (bytes_of (word_lines addr (word ∷ []))) }
     ensures cause { HasCause (K.faults (sink_of line.old)) (K.faults (sink_of line.new)) result }
     ensures same_sink { SameSink line.new line.old }
 {
@@ -265,7 +266,8 @@ pub(crate) fn write_report<K: Sink>(
     sink: &mut K,
 ) -> Result<(), SinkFault>
     requires { length steps.now ≤ 160000 }
-    ensures bytes { Puts (K.written sink.old) (K.written sink.new) result (bytes_of (full_lines 1 board.now steps.now)) }
+    ensures bytes { Puts (K.written sink.old) (K.written sink.new) result
+        (bytes_of (full_lines 1 board.now steps.now)) }
     ensures cause { HasCause (K.faults sink.old) (K.faults sink.new) result }
 {
     let mut line = Line::new(sink);

@@ -1,4 +1,4 @@
-//! Scripts: from text to plan. The rules are the board book's, in `board_plan/specs`.
+//! Scripts: from text to plan, and from plan to text. The rules are the board book's, in `board_plan/specs`.
 #![tactic(auto)]
 
 mod banks;
@@ -15,3 +15,4 @@ mod words;
 pub use board_plan::LineFault;
 pub use fault::ScriptError;
 pub use reading::read;
+pub use script_write::{moved, write};

@@ -165,7 +165,8 @@ fn begin<'a>(
 fn follow<'a>(begun: Begun<'a>, into: &mut Vec<&'a [u8]>) -> Result<Plan, ScriptError>
     requires { begun.line + length begun.rest.now < 2 ^ 32 }
     ensures plan { IfOk result (λ p. follow begun.entry.line begun.entry.half (lines begun.entry.rest.now) ≡ Ok p) }
-    ensures refused { IfErr result (λ e. IsFault e (follow begun.entry.line begun.entry.half (lines begun.entry.rest.now))) }
+    ensures refused { IfErr result
+        (λ e. IsFault e (follow begun.entry.line begun.entry.half (lines begun.entry.rest.now))) }
 {
     let Begun {
         mut half,

@@ -113,7 +113,16 @@ software_event = record { id = record { 0 = 0xffff0000 }; inject = true }
 
 abbrev pub first_plan : List Placed → ℕ → ℕ → Plan
 first_plan ops pc budget =
-    record { harts = 1; events = software_event ∷ []; ops = ops; starts = record { hart = 0; pc = pc; budget = budget } ∷ [] }
+    record {
+      harts = 1;
+      events = software_event ∷ [];
+      ops = ops;
+      starts = record {
+        hart = 0;
+        pc = pc;
+        budget = budget;
+      } ∷ [];
+    }
 
 -- `start 0 PC BUDGET`: a budget up to 10000
 unfoldable pub start_of_words : Half → List ℕ → List ℕ → Option Plan
@@ -141,7 +150,8 @@ following h (line ∷ more) =
 
 unfoldable pub from_pieces : List (List ℕ) → Option Plan
 from_pieces (first ∷ second ∷ more) =
-    if bytes_eq first (codes "board 1 1") && bytes_eq second (codes "event 0xffff0000 inject") then following begun more else None
+    if bytes_eq first (codes "board 1 1") && bytes_eq second (codes "event 0xffff0000 inject")
+    then following begun more else None
 from_pieces pieces = None
 
 -- the plan of a text of the first form, and None for every other text

@@ -8,9 +8,9 @@ use Rattle.sse_base.specs.declared.codes.SbiCode.{SbiCode}
 use Rattle.sse_base.specs.declared.ids.Instance.{Instance}
 use Rattle.sse_base.specs.Ids.{id_of}
 use Rattle.sse_base.specs.Codes.{number_of, is_success}
-use Rattle.sse_base.specs.Events.{start_events}
-use Rattle.sse_base.specs.Contexts.{Stack, with_pc, fresh_stack}
-use Rattle.sse_base.specs.Words.{word_index, load, fresh_memory}
+use Rattle.sse_base.specs.Start.{start_machine}
+use Rattle.sse_base.specs.Contexts.{Stack, with_pc}
+use Rattle.sse_base.specs.Words.{word_index, load}
 use Rattle.sse_base.specs.Machine.{Machine, Reach, reach, placed}
 use Rattle.sse_base.specs.Choice.{next_for}
 use Rattle.sse_base.specs.Calls.{Answer, call, delivered, with_memory}
@@ -40,7 +40,12 @@ pub record Made : Type 0 where
 
 -- past an op: 4 further, modulo 2^64
 abbrev pub past : Reach → Reach
-past r = record { stack = with_pc ((r.stack.live.pc + 4) % 2 ^ 64) r.stack; events = r.events; masks = r.masks; memory = r.memory }
+past r = record {
+  stack = with_pc ((r.stack.live.pc + 4) % 2 ^ 64) r.stack;
+  events = r.events;
+  masks = r.masks;
+  memory = r.memory;
+}
 
 abbrev pub is_user : Privilege → Bool
 is_user User = true
@@ -59,7 +64,10 @@ sbi h eid fid args stacks r =
 abbrev pub risen : ℕ → Option ℕ → Reach → Made
 risen addr None r = record { reach = r; note = Fault }
 risen addr (Some v) r =
-    record { reach = with_memory (slice_set r.memory (word_index addr) ((v + 1) % 2 ^ 64)) r; note = Inc addr ((v + 1) % 2 ^ 64) }
+    record {
+      reach = with_memory (slice_set r.memory (word_index addr) ((v + 1) % 2 ^ 64)) r;
+      note = Inc addr ((v + 1) % 2 ^ 64);
+    }
 
 abbrev pub apply : ℕ → List Stack → Reach → Op → Made
 apply h stacks r (ops.Sbi eid fid args) = sbi h eid fid args stacks r
@@ -80,7 +88,12 @@ own_step h ops stacks r = on_chosen h ops stacks r (next_for h r)
 -- what is counted of a step
 abbrev pub counted_call : SbiCode → Counts → Counts
 counted_call code c =
-    record { steps = c.steps + 1; calls = c.calls + 1; failed = if is_success code then c.failed else c.failed + 1; last = number_of code }
+    record {
+      steps = c.steps + 1;
+      calls = c.calls + 1;
+      failed = if is_success code then c.failed else c.failed + 1;
+      last = number_of code;
+    }
 
 abbrev pub counted : StepNote → Counts → Counts
 counted (Call eid fid args code written) c = counted_call code c
@@ -112,24 +125,20 @@ after_step h s (Some d) =
 -- a hart's step: none where it has made its budget
 abbrev pub hart_step : ℕ → List Placed → ℕ → BoardState → Option Stepped
 hart_step h ops budget s =
-    if nat_lt (counts_of h s).steps budget then after_step h s (own_step h ops s.machine.stacks (reach h s.machine)) else None
+    if nat_lt (counts_of h s).steps budget then after_step h s (own_step h ops s.machine.stacks (reach h s.machine))
+    else None
 
 unfoldable pub step : Plan → Step → BoardState → Option Stepped
 step plan (Hart h) s = hart_step h plan.ops (budget_of h plan.starts) s
 
 -- the board before its first step: every hart masked, every event unused, all else 0
-abbrev pub start_stacks : ℕ → List Start → List Stack
-start_stacks harts starts = map (λ h. fresh_stack (start_of h starts)) (range_with_len 0 harts)
+abbrev pub start_places : ℕ → List Start → List ℕ
+start_places harts starts = map (λ h. start_of h starts) (range_with_len 0 harts)
 
 abbrev pub start_state : Plan → BoardState
 start_state plan =
     record {
-      machine = record {
-        events = start_events plan.harts plan.events;
-        masks = replicate plan.harts true;
-        stacks = start_stacks plan.harts plan.starts;
-        memory = fresh_memory;
-      };
+      machine = start_machine plan.harts plan.events (start_places plan.harts plan.starts);
       counts = replicate plan.harts no_counts;
       steps = 0;
     }

@@ -34,7 +34,8 @@ bit_text b = decimal (bit b)
 -- what was made, on which board
 unfoldable pub head_line : ℕ → ℕ → List ℕ
 head_line harts steps =
-    codes "board 1" ++ field (codes "harts") (decimal harts) ++ field (codes "banks") (codes "0") ++ field (codes "reporters") (codes "0")
+    codes "board 1" ++ field (codes "harts") (decimal harts) ++ field (codes "banks") (codes "0")
+    ++ field (codes "reporters") (codes "0")
     ++ field (codes "steps") (decimal steps)
 
 abbrev pub privilege_text : Privilege → List ℕ
@@ -44,12 +45,15 @@ privilege_text Supervisor = codes "S"
 -- a hart: what it runs, and what is counted of it
 unfoldable pub context_text : Context → Triple → List ℕ
 context_text c t =
-    field (codes "pc") (hexadecimal c.pc) ++ field (codes "priv") (privilege_text c.privilege) ++ field (codes "sie") (bit_text c.sie)
-    ++ field (codes "sepc") (hexadecimal t.sepc) ++ field (codes "spp") (decimal (privilege_bit t.spp)) ++ field (codes "spie") (bit_text t.spie)
+    field (codes "pc") (hexadecimal c.pc) ++ field (codes "priv") (privilege_text c.privilege)
+    ++ field (codes "sie") (bit_text c.sie)
+    ++ field (codes "sepc") (hexadecimal t.sepc) ++ field (codes "spp") (decimal (privilege_bit t.spp))
+    ++ field (codes "spie") (bit_text t.spie)
     ++ field (codes "a6") (hexadecimal c.a6) ++ field (codes "a7") (hexadecimal c.a7)
 
 unfoldable pub counts_text : Counts → List ℕ
-counts_text c = field (codes "calls") (decimal c.calls) ++ field (codes "failed") (decimal c.failed) ++ field (codes "last") (signed_decimal c.last)
+counts_text c = field (codes "calls") (decimal c.calls) ++ field (codes "failed") (decimal c.failed)
+    ++ field (codes "last") (signed_decimal c.last)
 
 unfoldable pub hart_line : ℕ → Counts → Bool → Stack → List ℕ
 hart_line h c masked s =
@@ -111,7 +115,8 @@ unfoldable pub entries_of_line : List Step → ℕ → List Step
 entries_of_line steps k = take 16 (drop (16 * k) steps)
 
 abbrev pub schedule_lines : List Step → List (List ℕ)
-schedule_lines steps = map (λ k. schedule_line (entries_of_line steps k)) (range_with_len 0 (max 1 ((length steps + 15) / 16)))
+schedule_lines steps =
+    map (λ k. schedule_line (entries_of_line steps k)) (range_with_len 0 (max 1 ((length steps + 15) / 16)))
 
 abbrev pub end_line : List ℕ
 end_line = codes "end"

@@ -218,8 +218,7 @@ fits_still None got before bank report answer h one = tt
 fits_still (Some d) got before bank report answer h one = λ has. error_holds d got before bank report answer (h has) one
 
 -- A report keeps whatever drain fits the bank. Its two premises are what `Bank::report` ensures by its clauses
--- `records`
--- and `unchanged`.
+-- `records` and `unchanged`.
 pub report_keeps_fit : (drain : DrainView) (before bank : BankView) (report : Report) (answer : Option Logged)
     → Fits drain before
     → IfSome answer

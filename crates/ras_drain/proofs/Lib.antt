@@ -2,3 +2,4 @@ pub mod Held
 pub mod Errors
 pub mod Phased
 pub mod Meaning
+pub mod Beginning

@@ -1,6 +1,5 @@
 -- When a drain fits its bank: what it has read of a record is still what stands there, unless an error wrote the
--- record.
--- Read-in-progress is that of RERI 1.0 (`rdip` of `status_i`); all else is this project's own.
+-- record. Read-in-progress is that of RERI 1.0 (`rdip` of `status_i`); all else is this project's own.
 use Rattle.std.specs.Prelude.{◌≡◌, ◌≤◌, ℕ, Bool, true, false, List, length, slice_get, Option, Some, None}
 use Rattle.reri_fields.specs.declared.report.RecordCopy.{RecordCopy}
 use Rattle.reri_fields.specs.declared.drain.Phase.{Phase}
@@ -10,8 +9,7 @@ use Rattle.reri_fields.specs.Banks.{BankView}
 use Rattle.reri_fields.specs.Drain.{Draining}
 
 -- what contracts see of a drain: where it is while it is under way, how many copies it gathers, and the registers that
--- it
--- has read since its last claim
+-- it has read since its last claim
 pub record DrainView : Type 0 where
   pub drain : Option Draining
   pub gather : ℕ

@@ -1,6 +1,5 @@
 -- How the code keeps a drain that is under way, and what its phases leave. This describes the code; no public clause
--- cites
--- it.
+-- cites it.
 use Rattle.std.specs.Prelude.{◌≡◌, ◌≤◌, ◌<◌, ℕ, Bool, true, false, List, length, Option, Some, None}
 use Rattle.reri_fields.specs.declared.report.RecordCopy.{RecordCopy}
 use Rattle.reri_fields.specs.declared.drain.Phase.{Phase}
@@ -47,8 +46,7 @@ pub record Moves (at : At) (phase : Phase) (gather : ℕ) (before bank : BankVie
   pub within : IsWithin gather next
 
 -- what any phase leaves: the drain, the bank, the slot and the note that the book gives; the drain fits the bank, the
--- slot
--- has room, and the drain is within its numbers
+-- slot has room, and the drain is within its numbers
 pub record Leaves (at : At) (phase : Phase) (gather : ℕ) (before bank : BankView) (old slot : List RecordCopy)
     (got : RecordCopy) (next : Option At) (note : DrainNote) : Type 0 where
   pub does : (plan : BankPlan) (s : BankState) → gather ≡ plan.gather → IsAt plan s before old

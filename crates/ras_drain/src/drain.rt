@@ -1,9 +1,9 @@
 //! The drain.
 
-ghost use Rattle.std.specs.Prelude.{◌≡◌, ◌≤◌, ◌<◌, ℕ, List, IsSome, Some, None, option_map};
+ghost use Rattle.std.specs.Prelude.{◌≡◌, ◌≤◌, ◌<◌, ℕ, List, [], IsSome, Some, None, option_map};
 ghost use Rattle.std.specs.Option.{option_map_or};
 ghost use Rattle.reri_fields.specs.Records.{Origin};
-ghost use Rattle.reri_fields.specs.Banks.{BankEvent};
+ghost use Rattle.reri_fields.specs.Banks.{BankEvent, BankView};
 ghost use Rattle.reri_fields.specs.Drain.{BankPlan, BankState, Draining, fresh_drain, phase_step};
 ghost use Rattle.ras_drain.specs.Fits.{Fits, HasRoom};
 ghost use Rattle.ras_drain.specs.Steps.{IsAt, Took, TornAfterClaim, StoodAfterCheck};
@@ -16,8 +16,8 @@ use std::marker::Model;
 
 /// A drain, which takes errors out of the records of one bank into the bank's slot, one phase a step.
 ///
-/// From the Scan that took a record up to its Invalidate, only the drain may claim the record or clear it; errors may come at
-/// any time.
+/// From the Scan that took a record up to its Invalidate, only the drain may claim the record or clear it; errors may
+/// come at any time.
 #[derive(Drop)]
 pub struct Drain {
     at: Option<At>,
@@ -55,6 +55,8 @@ impl Drain {
         requires few { gather ≤ 4 }
         ensures begins { self.new.drain ≡ Some fresh_drain }
         ensures gathers { self.new.gather ≡ gather }
+        ensures fits { (bank : BankView) → Fits self.new bank }
+        ensures room { HasRoom self.new.drain [] }
     {
         self.gather = gather;
         self.at = Some(At {
@@ -65,8 +67,8 @@ impl Drain {
         });
     }
 
-    /// The phase that the next step takes, and the record that the drain has taken, which is 0 where it has none. None comes
-    /// exactly where no drain is under way.
+    /// The phase that the next step takes, and the record that the drain has taken, which is 0 where it has none. None
+    /// comes exactly where no drain is under way.
     pub fn phase(&self) -> Option<(Phase, u8)>
         ensures { result ≡ option_map (λ d. (d.phase, d.rec)) self.now.drain }
     {
@@ -83,9 +85,9 @@ impl Drain {
         }
     }
 
-    /// Takes one phase of the drain, and says what it did. `Over` comes exactly where a Scan finds no signalled record, `Torn`
-    /// exactly where an error wrote the record since its claim, and `Invalidated` says false exactly where an error wrote the
-    /// record since its Check.
+    /// Takes one phase of the drain, and says what it did. `Over` comes exactly where a Scan finds no signalled
+    /// record, `Torn` exactly where an error wrote the record since its claim, and `Invalidated` says false exactly
+    /// where an error wrote the record since its Check.
     pub fn step(&mut self, bank: &mut Bank, slot: &mut Slot) -> DrainNote
         requires under_way { IsSome self.old.drain }
         requires room { HasRoom self.old.drain slot.old }

@@ -126,8 +126,8 @@ fn has_read(at: At, next: Phase, register: u8) -> (Option<At>, DrainNote)
     (Some(At { phase: next, ..at }), DrainNote::Read { register })
 }
 
-/// Reads the status. Where read-in-progress is still set, the registers that were read go to the slot; where it isn't, an
-/// error has written the record, and it is to be claimed again.
+/// Reads the status. Where read-in-progress is still set, the registers that were read go to the slot; where it isn't,
+/// an error has written the record, and it is to be claimed again.
 fn check(at: At, got: &RecordCopy, bank: &Bank, slot: &mut Slot) -> (Option<At>, DrainNote)
     requires few { length slot.old ≤ at.published }
     requires below { at.published < 4 }
@@ -169,7 +169,8 @@ fn level(copy: &RecordCopy) -> u8
     }
 }
 
-/// Clears the record where read-in-progress is still set. The drain looks for a further record while it may gather more.
+/// Clears the record where read-in-progress is still set. The drain looks for a further record while it may gather
+/// more.
 fn invalidate(at: At, gather: u8, bank: &mut Bank) -> (Option<At>, DrainNote)
     requires few { gather ≤ 4 }
     requires there { at.rec < length bank.old.copies }

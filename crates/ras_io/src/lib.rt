@@ -11,4 +11,4 @@ pub use faults::{NoMemory, SinkFault, SourceFault};
 pub use memory::{MemSink, MemSource};
 pub use outside::{Sink, Source};
 pub use standard::{StdSink, StdSource};
-pub use whole::{ReadAllError, read_all};
+pub use whole::{MAX_INPUT, ReadAllError, read_all};

@@ -22,6 +22,9 @@ pub enum ReadAllError {
     NoMemory,
 }
 
+/// The longest input that any command takes, in bytes: a script with a trace behind it.
+pub const MAX_INPUT: usize = 50_331_648;
+
 // the most that one call of `read` is asked for
 const PIECE: usize = 4096;
 
@@ -30,7 +33,7 @@ const PIECE: usize = 4096;
 /// room was found for them, and no read had failed. Whatever the answer, at most `max` + 1 bytes were taken.
 /// A turn that takes no byte is the last one, so this ends.
 pub fn read_all<S: Source>(alloc: Global, src: &mut S, max: usize) -> Result<Vec<u8>, ReadAllError>
-    requires { max ≤ 50331648 }
+    requires { max ≤ MAX_INPUT }
     ensures whole { IfOk result (λ v. Consumes (S.left src.old) (S.left src.new) v.items) }
     ensures ended { OnOk result (IsAtEnd (S.left src.new)) }
     ensures short { IfOk result (λ v. length v.items ≤ max) }

@@ -40,7 +40,8 @@ fn what_is_not_there_is_none(rt: HostRuntime) -> Result<(), Fail> {
     Ok(())
 }
 
-// In a bank of as many records as can be, each is reported, claimed, read and cleared, and the summary is true all along.
+// In a bank of as many records as can be, each is reported, claimed, read and cleared, and the summary is true all
+// along.
 #[test]
 fn each_of_sixty_three_records_is_read_and_cleared(rt: HostRuntime) -> Result<(), Fail> {
     let start = [(PLAIN, 0); 63];

@@ -1,10 +1,12 @@
-//! Tests of error records: their fields, logging, banks and status blocks.
+//! Tests of error records: their fields, logging, banks, status blocks and drains.
 #![tactic(auto)]
 
 #[cfg(test)]
 mod banks;
 #[cfg(test)]
 mod blocks;
+#[cfg(test)]
+mod drains;
 #[cfg(test)]
 mod fields;
 #[cfg(test)]

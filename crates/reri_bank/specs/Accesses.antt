@@ -1,8 +1,6 @@
 -- What each access to a bank does: where it finds what it names, what it adds to the bank's history, what it changes
--- and
--- what it answers.
--- SetRead and Invalidate follow RERI 1.0 (`srdp` and `sinv` of `control_i`). The list of accesses is this project's
--- own.
+-- and what it answers. SetRead and Invalidate follow RERI 1.0 (`srdp` and `sinv` of `control_i`). The list of accesses
+-- is this project's own.
 use Rattle.std.specs.Prelude.{◌≡◌, ℕ, ◌<◌, if◌then◌else◌, List, ◌∷◌, slice_get, Some}
 use Rattle.std.specs.Option.{option_map, option_and_then}
 use Rattle.reri_fields.specs.declared.report.RecordCopy.{RecordCopy}

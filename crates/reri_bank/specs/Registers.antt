@@ -1,7 +1,6 @@
--- What a reader does to the registers of one record, and what they read as, for any registers.
--- Read-in-progress and the invalidation follow RERI 1.0 (`srdp` and `sinv` of `control_i`), in this project's profile:
--- an
--- invalidation takes effect only where read-in-progress is set.
+-- What a reader does to the registers of one record, and what they read as, for any registers. Read-in-progress and
+-- the invalidation follow RERI 1.0 (`srdp` and `sinv` of `control_i`), in this project's profile: an invalidation
+-- takes effect only where read-in-progress is set.
 use Rattle.std.specs.Prelude.{◌≡◌, ℕ, ◌+◌, ◌*◌, true, false, if◌then◌else◌, MatchBool, List, [], ◌∷◌, slice_get, slice_set, Some}
 use Rattle.reri_fields.specs.declared.report.RecordCopy.{RecordCopy}
 use Rattle.reri_fields.specs.Records.{Origin}

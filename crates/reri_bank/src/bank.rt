@@ -22,8 +22,8 @@ pub const MAX_RECORDS: usize = 63;
 
 /// The records of a bank, and whether the bank asks to be drained.
 ///
-/// Contracts see the registers of each record and the ask flag. Behind them is one row of words: the summary, and then six
-/// words for each record.
+/// Contracts see the registers of each record and the ask flag. Behind them is one row of words: the summary, and then
+/// six words for each record.
 #[derive(Drop)]
 pub struct Bank {
     words: Vec<u64>,
@@ -46,8 +46,8 @@ impl Model for Bank {
 impl Bank {
     /// A bank of records with these control words and starting counts, to which nothing has happened yet.
     ///
-    /// There are 1 to 63 of them, and no control word has a bit outside its fields. `NoMemory` comes where no room was found
-    /// for them.
+    /// There are 1 to 63 of them, and no control word has a bit outside its fields. `NoMemory` comes where no room was
+    /// found for them.
     pub fn new(alloc: Global, start: &[(u64, u16)]) -> Result<Bank, NoMemory>
         requires any { 0 < length start.now }
         requires room { length start.now ≤ MAX_RECORDS }
@@ -67,8 +67,8 @@ impl Bank {
         })
     }
 
-    /// The word at a byte offset, as the bank is laid out: the summary first, and then the six registers of each record, 8
-    /// bytes a word. None comes exactly where the offset is not a multiple of 8 or is past the last word.
+    /// The word at a byte offset, as the bank is laid out: the summary first, and then the six registers of each
+    /// record, 8 bytes a word. None comes exactly where the offset is not a multiple of 8 or is past the last word.
     pub fn word(&self, offset: u64) -> Option<u64>
         ensures value { result ≡ word_at self.now.copies offset }
         ensures none { IsNone result ↔ ¬ ((offset % 8 ≡ 0) × (offset < 8 * (1 + 6 * length self.now.copies))) }
@@ -105,8 +105,8 @@ impl Bank {
         layout::write(&mut self.words, rec as usize, copy);
     }
 
-    /// What a reader's access does and answers. None comes exactly where the record's number is not below the bank's count of
-    /// records or the register's is above 5, and then nothing changed.
+    /// What a reader's access does and answers. None comes exactly where the record's number is not below the bank's
+    /// count of records or the register's is above 5, and then nothing changed.
     pub fn access(&mut self, access: Access) -> Option<u64>
         ensures there { IsNone result ↔ ¬ (IsThere (length self.old.copies) access) }
         ensures value { IfSome result (λ value. Gives access self.old.copies self.new.copies value) }
@@ -129,7 +129,8 @@ impl Bank {
     /// One register of a record.
     fn read(&self, rec: u8, register: u8) -> Option<u64>
         ensures there { IsNone result ↔ ¬ (IsThere (length self.now.copies) (Access.Read rec register)) }
-        ensures value { IfSome result (λ value. Gives (Access.Read rec register) self.now.copies self.now.copies value) }
+        ensures value { IfSome result (λ value.
+            Gives (Access.Read rec register) self.now.copies self.now.copies value) }
     {
         let registers = self.find(rec)?.registers();
         registers.get(register as usize).copied()
@@ -178,14 +179,15 @@ impl Bank {
     fn log_at(&mut self, report: &Report) -> Logged
         requires priority { report.now.priority < 4 }
         requires there { report.now.rec < length self.old.copies }
-        ensures records { OneChanges (λ old new. Updates old report.now new result) report.now.rec self.old.copies self.new.copies }
+        ensures records { OneChanges (λ old new. Updates old report.now new result)
+            report.now.rec self.old.copies self.new.copies }
         ensures asking { self.new.asks ≡ self.old.asks }
     {
         layout::log_into(&mut self.words, report.rec as usize, report)
     }
 
-    /// Logs an error into the record that it names, and sets the ask flag where it wrote the record at a level other than 0.
-    /// None comes exactly where the bank has no record of that number, and then nothing changed.
+    /// Logs an error into the record that it names, and sets the ask flag where it wrote the record at a level other
+    /// than 0. None comes exactly where the bank has no record of that number, and then nothing changed.
     pub fn report(&mut self, report: &Report) -> Option<Logged>
         requires { report.now.priority < 4 }
         ensures none { IsNone result ↔ (length self.old.copies ≤ report.now.rec) }
@@ -195,10 +197,12 @@ impl Bank {
         ensures answer { (origins : List Origin) (history : List BankEvent) (step : ℕ) (origin : Origin)
             → AllLogsBefore step history → BankStands origins history self.old
             → slice_get origins report.now.rec ≡ Some origin
-            → result ≡ Some (outcome origin (events_of report.now.rec history) (record { step = step; report = report.now })) }
+            → result ≡ Some (outcome origin (events_of report.now.rec history)
+            (record { step = step; report = report.now })) }
 
         // The same for any registers.
-        ensures records { IfSome result (λ answer. OneChanges (λ old new. Updates old report.now new answer) report.now.rec self.old.copies self.new.copies) }
+        ensures records { IfSome result (λ answer. OneChanges (λ old new. Updates old report.now new answer)
+            report.now.rec self.old.copies self.new.copies) }
         ensures asking { IfSome result (λ answer. self.new.asks ≡ (self.old.asks || nat_lt 0 (level_in answer))) }
         ensures unchanged { IfNone result (self.new ≡ self.old) }
     {
@@ -218,8 +222,8 @@ impl Bank {
         self.asks
     }
 
-    /// The least number of a signalled record: one that is valid and whose control has a code other than 0 for its greatest
-    /// severity. None comes exactly where no record is signalled.
+    /// The least number of a signalled record: one that is valid and whose control has a code other than 0 for its
+    /// greatest severity. None comes exactly where no record is signalled.
     pub fn next_signalled(&self) -> Option<u8>
         ensures least { IsLeast (is_signalled_at self.now.copies) result }
         ensures stands { (origins : List Origin) (history : List BankEvent) → BankStands origins history self.now
@@ -243,8 +247,8 @@ impl Bank {
         self.asks = false;
     }
 
-    /// The six registers of a record. Whatever happened to the record, it is valid exactly where it has a severity, and no bit
-    /// outside the fields of its control and status is set.
+    /// The six registers of a record. Whatever happened to the record, it is valid exactly where it has a severity,
+    /// and no bit outside the fields of its control and status is set.
     pub fn copy_of(&self, rec: u8) -> RecordCopy
         requires { rec < length self.now.copies }
         ensures value { slice_get self.now.copies rec ≡ Some result }

@@ -56,7 +56,8 @@ pub fn log_into(words: &mut [u64], rec: usize, report: &Report) -> Logged
     requires room { 7 + 6 * rec ≤ length words.old }
     ensures laid { IsLaidOut words.new }
     ensures length { length words.new ≡ length words.old }
-    ensures changed { OneChanges (λ old new. Updates old report.now new result) rec (copies_in words.old) (copies_in words.new) }
+    ensures changed { OneChanges (λ old new. Updates old report.now new result)
+        rec (copies_in words.old) (copies_in words.new) }
 {
     let answer = log_words(words, place(rec), report);
     let valid = Status(words[place(rec) + 1]).valid();

@@ -4,7 +4,7 @@ use Rattle.std.specs.Prelude.{Some, None}
 use Rattle.reri_fields.specs.declared.severity.Severity.TheVariants.{Ued, Uec}
 use Rattle.reri_fields.specs.Fields.{bits, flag, control_fields, control_spare, status_fields, status_spare, level_of, greatest}
 
--- enabled, not counting; corrected and contained errors at low priority, the others at high
+-- enabled, not counting; corrected and deferred errors at low priority, critical ones at high
 plain_control : control_fields 0x95
     ≡ record { enable = true; counting = false; ce_signal = 1; ued_signal = 1; uec_signal = 2 }
 unfolding control_fields flag bits
@@ -17,9 +17,9 @@ unfolding control_fields flag bits
 counting_control = refl
 
 -- the level of an error that work can go on from, under that control
-contained_level : level_of (control_fields 0x95) Ued ≡ 1
+deferred_level : level_of (control_fields 0x95) Ued ≡ 1
 unfolding level_of control_fields flag bits
-contained_level = refl
+deferred_level = refl
 
 -- a corrected error of code 7 is shown, the count has wrapped and one more was counted since
 wrapped_status : status_fields 0x100070103

@@ -83,27 +83,38 @@ one_record rec copy =
 two_notes : notes two bank_start (two_errors ++ replicate 17 Drains) ≡
     heard_of (error 1 0 Ce 0 1 0x100 1) (Some (Wrote 1)) ∷ heard_of (error 2 1 Uec 0 2 0x200 2) (Some (Wrote 2))
     ∷ (one_record 0 first_copy ++ one_record 1 second_copy ++ Drew 1 (note.Signal 2) ∷ [])
-unfolding bank_step asks raised least_signalled is_signalled_after level_after events_of level_in outcome wrote in_progress since is_logged control_fields status_fields flag bits level_of is_counted is_ce counted is_any is_shown_after came_at shown greatest_of rank_of severity_of severity_number has_severity is_multiple number_in status_after copy_after status_word bit_at copy_level greatest is_free
+unfolding bank_step asks raised least_signalled is_signalled_after level_after events_of level_in outcome wrote
+    in_progress since is_logged control_fields status_fields flag bits level_of is_counted is_ce counted is_any
+    is_shown_after came_at shown greatest_of rank_of severity_of severity_number has_severity is_multiple number_in
+    status_after copy_after status_word bit_at copy_level greatest is_free
 two_notes = refl
 
 -- the slot holds both copies, and the bank still asks, since no Scan has come up empty
 two_slot : (after two bank_start (two_errors ++ replicate 17 Drains)).slot ≡ first_copy ∷ second_copy ∷ []
-unfolding bank_step asks raised least_signalled is_signalled_after level_after events_of level_in outcome wrote in_progress since is_logged control_fields status_fields flag bits level_of is_counted is_ce counted is_any is_shown_after came_at shown greatest_of rank_of severity_of severity_number has_severity is_multiple number_in status_after copy_after status_word bit_at copy_level greatest is_free
+unfolding bank_step asks raised least_signalled is_signalled_after level_after events_of level_in outcome wrote
+    in_progress since is_logged control_fields status_fields flag bits level_of is_counted is_ce counted is_any
+    is_shown_after came_at shown greatest_of rank_of severity_of severity_number has_severity is_multiple number_in
+    status_after copy_after status_word bit_at copy_level greatest is_free
 two_slot = refl
 
 two_asks : asks two.origins (after two bank_start (two_errors ++ replicate 17 Drains)).history ≡ true
-unfolding bank_step asks raised least_signalled is_signalled_after level_after events_of level_in outcome wrote in_progress since is_logged control_fields status_fields flag bits level_of is_counted is_ce counted is_any is_shown_after came_at shown greatest_of rank_of severity_of severity_number has_severity is_multiple number_in status_after copy_after status_word bit_at copy_level greatest is_free
+unfolding bank_step asks raised least_signalled is_signalled_after level_after events_of level_in outcome wrote
+    in_progress since is_logged control_fields status_fields flag bits level_of is_counted is_ce counted is_any
+    is_shown_after came_at shown greatest_of rank_of severity_of severity_number has_severity is_multiple number_in
+    status_after copy_after status_word bit_at copy_level greatest is_free
 two_asks = refl
 
 -- No drain begins while the slot is full. Once it is acknowledged, one begins whose Scan finds nothing: it is over,
--- and the
--- bank no longer asks.
+-- and the bank no longer asks.
 abbrev drained : BankState
 drained = after two bank_start (two_errors ++ replicate 17 Drains)
 
 full_waits : notes two drained (Drains ∷ Acknowledges ∷ Acknowledges ∷ Drains ∷ Drains ∷ []) ≡
     Acknowledged true ∷ Acknowledged false ∷ Drew 0 note.Over ∷ []
-unfolding bank_step asks raised least_signalled is_signalled_after level_after events_of level_in outcome wrote in_progress since is_logged control_fields status_fields flag bits level_of is_counted is_ce counted is_any is_shown_after came_at shown greatest_of rank_of severity_of severity_number has_severity is_multiple number_in status_after copy_after status_word bit_at copy_level greatest is_free
+unfolding bank_step asks raised least_signalled is_signalled_after level_after events_of level_in outcome wrote
+    in_progress since is_logged control_fields status_fields flag bits level_of is_counted is_ce counted is_any
+    is_shown_after came_at shown greatest_of rank_of severity_of severity_number has_severity is_multiple number_in
+    status_after copy_after status_word bit_at copy_level greatest is_free
 full_waits = refl
 
 -- ---- An acknowledgement while the drain is on its way: the slot holds the copies that came after it ----
@@ -111,7 +122,10 @@ full_waits = refl
 acknowledged_midway :
     (after two bank_start (two_errors ++ replicate 8 Drains ++ Acknowledges ∷ replicate 9 Drains)).slot ≡ second_copy
     ∷ []
-unfolding bank_step asks raised least_signalled is_signalled_after level_after events_of level_in outcome wrote in_progress since is_logged control_fields status_fields flag bits level_of is_counted is_ce counted is_any is_shown_after came_at shown greatest_of rank_of severity_of severity_number has_severity is_multiple number_in status_after copy_after status_word bit_at copy_level greatest is_free
+unfolding bank_step asks raised least_signalled is_signalled_after level_after events_of level_in outcome wrote
+    in_progress since is_logged control_fields status_fields flag bits level_of is_counted is_ce counted is_any
+    is_shown_after came_at shown greatest_of rank_of severity_of severity_number has_severity is_multiple number_in
+    status_after copy_after status_word bit_at copy_level greatest is_free
 acknowledged_midway = refl
 
 -- ---- A claim is torn by a greater error ----
@@ -131,7 +145,10 @@ torn_notes : notes one bank_start torn_tries ≡
     ∷ heard_of (error 4 0 Uec 0 2 0x200 2) (Some (Wrote 2))
     ∷ (read_all 0 ++ Drew 0 note.Torn ∷ Drew 0 note.Claimed ∷ (read_all 0
     ++ Drew 0 (note.Published torn_copy) ∷ Drew 0 (note.Invalidated true) ∷ Drew 0 (note.Signal 2) ∷ []))
-unfolding bank_step asks raised least_signalled is_signalled_after level_after events_of level_in outcome wrote in_progress since is_logged control_fields status_fields flag bits level_of is_counted is_ce counted is_any is_shown_after came_at shown greatest_of rank_of severity_of severity_number has_severity is_multiple number_in status_after copy_after status_word bit_at copy_level greatest is_free torn_copy
+unfolding bank_step asks raised least_signalled is_signalled_after level_after events_of level_in outcome wrote
+    in_progress since is_logged control_fields status_fields flag bits level_of is_counted is_ce counted is_any
+    is_shown_after came_at shown greatest_of rank_of severity_of severity_number has_severity is_multiple number_in
+    status_after copy_after status_word bit_at copy_level greatest is_free torn_copy
 torn_notes = refl
 
 -- ---- An error after the Check: the record is not cleared, and stays signalled ----
@@ -142,7 +159,10 @@ late_tries =
     ∷ (replicate 7 Drains ++ Reports (error 9 0 Uec 1 2 0x200 2) ∷ Drains ∷ Drains ∷ [])
 
 late_stays : is_signalled_after one.origins (after one bank_start late_tries).history 0 ≡ true
-unfolding bank_step asks raised least_signalled is_signalled_after level_after events_of level_in outcome wrote in_progress since is_logged control_fields status_fields flag bits level_of is_counted is_ce counted is_any is_shown_after came_at shown greatest_of rank_of severity_of severity_number has_severity is_multiple number_in status_after copy_after status_word bit_at copy_level greatest is_free
+unfolding bank_step asks raised least_signalled is_signalled_after level_after events_of level_in outcome wrote
+    in_progress since is_logged control_fields status_fields flag bits level_of is_counted is_ce counted is_any
+    is_shown_after came_at shown greatest_of rank_of severity_of severity_number has_severity is_multiple number_in
+    status_after copy_after status_word bit_at copy_level greatest is_free
 late_stays = refl
 
 late_stands :
@@ -151,18 +171,27 @@ late_stands :
     ≡
     heard_of (error 9 0 Uec 1 2 0x200 2) (Some (Wrote 2)) ∷ Drew 0 (note.Invalidated false) ∷ Drew 0 (note.Signal 1)
     ∷ []
-unfolding bank_step asks raised least_signalled is_signalled_after level_after events_of level_in outcome wrote in_progress since is_logged control_fields status_fields flag bits level_of is_counted is_ce counted is_any is_shown_after came_at shown greatest_of rank_of severity_of severity_number has_severity is_multiple number_in status_after copy_after status_word bit_at copy_level greatest is_free
+unfolding bank_step asks raised least_signalled is_signalled_after level_after events_of level_in outcome wrote
+    in_progress since is_logged control_fields status_fields flag bits level_of is_counted is_ce counted is_any
+    is_shown_after came_at shown greatest_of rank_of severity_of severity_number has_severity is_multiple number_in
+    status_after copy_after status_word bit_at copy_level greatest is_free
 late_stands = refl
 
 -- ---- Nothing to drain ----
 
 -- no drain is due where the bank does not ask
 nothing_due : notes one bank_start (Drains ∷ Acknowledges ∷ []) ≡ Acknowledged false ∷ []
-unfolding bank_step asks raised least_signalled is_signalled_after level_after events_of level_in outcome wrote in_progress since is_logged control_fields status_fields flag bits level_of is_counted is_ce counted is_any is_shown_after came_at shown greatest_of rank_of severity_of severity_number has_severity is_multiple number_in status_after copy_after status_word bit_at copy_level greatest is_free
+unfolding bank_step asks raised least_signalled is_signalled_after level_after events_of level_in outcome wrote
+    in_progress since is_logged control_fields status_fields flag bits level_of is_counted is_ce counted is_any
+    is_shown_after came_at shown greatest_of rank_of severity_of severity_number has_severity is_multiple number_in
+    status_after copy_after status_word bit_at copy_level greatest is_free
 nothing_due = refl
 
 -- an error for a record that the bank has not
 stray : notes one bank_start (Reports (error 1 1 Uec 0 2 0x100 1) ∷ Drains ∷ [])
     ≡ heard_of (error 1 1 Uec 0 2 0x100 1) None ∷ []
-unfolding bank_step asks raised least_signalled is_signalled_after level_after events_of level_in outcome wrote in_progress since is_logged control_fields status_fields flag bits level_of is_counted is_ce counted is_any is_shown_after came_at shown greatest_of rank_of severity_of severity_number has_severity is_multiple number_in status_after copy_after status_word bit_at copy_level greatest is_free
+unfolding bank_step asks raised least_signalled is_signalled_after level_after events_of level_in outcome wrote
+    in_progress since is_logged control_fields status_fields flag bits level_of is_counted is_ce counted is_any
+    is_shown_after came_at shown greatest_of rank_of severity_of severity_number has_severity is_multiple number_in
+    status_after copy_after status_word bit_at copy_level greatest is_free
 stray = refl

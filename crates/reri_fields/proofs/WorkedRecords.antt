@@ -58,20 +58,28 @@ abbrev torn_history : List Event
 torn_history = Reported torn_second ∷ Claimed ∷ Reported torn_first ∷ []
 
 torn_first_wrote : outcome plain [] torn_first ≡ Wrote 1
-unfolding outcome wrote in_progress since is_logged control_fields status_fields status_spare flag bits level_of is_counted is_ce counted is_any is_shown_after came_at shown greatest_of rank_of severity_of severity_number has_severity is_multiple number_in
+unfolding outcome wrote in_progress since is_logged control_fields status_fields status_spare flag bits level_of
+    is_counted is_ce counted is_any is_shown_after came_at shown greatest_of rank_of severity_of severity_number
+    has_severity is_multiple number_in
 torn_first_wrote = refl
 
 torn_second_wrote : outcome plain (Claimed ∷ Reported torn_first ∷ []) torn_second ≡ Wrote 2
-unfolding outcome wrote in_progress since is_logged control_fields status_fields status_spare flag bits level_of is_counted is_ce counted is_any is_shown_after came_at shown greatest_of rank_of severity_of severity_number has_severity is_multiple number_in
+unfolding outcome wrote in_progress since is_logged control_fields status_fields status_spare flag bits level_of
+    is_counted is_ce counted is_any is_shown_after came_at shown greatest_of rank_of severity_of severity_number
+    has_severity is_multiple number_in
 torn_second_wrote = refl
 
 first_try_is_torn : in_progress plain torn_history ≡ false
-unfolding outcome wrote in_progress since is_logged control_fields status_fields status_spare flag bits level_of is_counted is_ce counted is_any is_shown_after came_at shown greatest_of rank_of severity_of severity_number has_severity is_multiple number_in
+unfolding outcome wrote in_progress since is_logged control_fields status_fields status_spare flag bits level_of
+    is_counted is_ce counted is_any is_shown_after came_at shown greatest_of rank_of severity_of severity_number
+    has_severity is_multiple number_in
 first_try_is_torn = refl
 
 second_try_publishes : Stands plain (Claimed ∷ torn_history)
     (record { control = 0x95; status = 0x2008d; address = 0x200; info = 0; supplement = 0; time = 2 })
-unfolding outcome wrote in_progress since is_logged control_fields status_fields status_spare flag bits level_of is_counted is_ce counted is_any is_shown_after came_at shown greatest_of rank_of severity_of severity_number has_severity is_multiple number_in
+unfolding outcome wrote in_progress since is_logged control_fields status_fields status_spare flag bits level_of
+    is_counted is_ce counted is_any is_shown_after came_at shown greatest_of rank_of severity_of severity_number
+    has_severity is_multiple number_in
 second_try_publishes = record {
   control = refl;
   shows = record {
@@ -102,25 +110,35 @@ abbrev late : Error
 late = error 9 Uec 0 2 0x200 2
 
 early_shows : status_fields 0x10083 ≡ fields_of plain (Claimed ∷ Reported early ∷ [])
-unfolding outcome wrote in_progress since is_logged control_fields status_fields status_spare flag bits level_of is_counted is_ce counted is_any is_shown_after came_at shown greatest_of rank_of severity_of severity_number has_severity is_multiple number_in
+unfolding outcome wrote in_progress since is_logged control_fields status_fields status_spare flag bits level_of
+    is_counted is_ce counted is_any is_shown_after came_at shown greatest_of rank_of severity_of severity_number
+    has_severity is_multiple number_in
 early_shows = refl
 
 late_wrote : outcome plain (Claimed ∷ Reported early ∷ []) late ≡ Wrote 2
-unfolding outcome wrote in_progress since is_logged control_fields status_fields status_spare flag bits level_of is_counted is_ce counted is_any is_shown_after came_at shown greatest_of rank_of severity_of severity_number has_severity is_multiple number_in
+unfolding outcome wrote in_progress since is_logged control_fields status_fields status_spare flag bits level_of
+    is_counted is_ce counted is_any is_shown_after came_at shown greatest_of rank_of severity_of severity_number
+    has_severity is_multiple number_in
 late_wrote = refl
 
 invalidation_stood : since plain (Invalidated ∷ Reported late ∷ Claimed ∷ Reported early ∷ []) ≡ early ∷ late ∷ []
-unfolding outcome wrote in_progress since is_logged control_fields status_fields status_spare flag bits level_of is_counted is_ce counted is_any is_shown_after came_at shown greatest_of rank_of severity_of severity_number has_severity is_multiple number_in
+unfolding outcome wrote in_progress since is_logged control_fields status_fields status_spare flag bits level_of
+    is_counted is_ce counted is_any is_shown_after came_at shown greatest_of rank_of severity_of severity_number
+    has_severity is_multiple number_in
 invalidation_stood = refl
 
 late_shows : status_fields 0x2008b
     ≡ fields_of plain (Claimed ∷ Invalidated ∷ Reported late ∷ Claimed ∷ Reported early ∷ [])
-unfolding outcome wrote in_progress since is_logged control_fields status_fields status_spare flag bits level_of is_counted is_ce counted is_any is_shown_after came_at shown greatest_of rank_of severity_of severity_number has_severity is_multiple number_in
+unfolding outcome wrote in_progress since is_logged control_fields status_fields status_spare flag bits level_of
+    is_counted is_ce counted is_any is_shown_after came_at shown greatest_of rank_of severity_of severity_number
+    has_severity is_multiple number_in
 late_shows = refl
 
 then_cleared : status_fields 0
     ≡ fields_of plain (Invalidated ∷ Claimed ∷ Invalidated ∷ Reported late ∷ Claimed ∷ Reported early ∷ [])
-unfolding outcome wrote in_progress since is_logged control_fields status_fields status_spare flag bits level_of is_counted is_ce counted is_any is_shown_after came_at shown greatest_of rank_of severity_of severity_number has_severity is_multiple number_in
+unfolding outcome wrote in_progress since is_logged control_fields status_fields status_spare flag bits level_of
+    is_counted is_ce counted is_any is_shown_after came_at shown greatest_of rank_of severity_of severity_number
+    has_severity is_multiple number_in
 then_cleared = refl
 
 -- ---- Twelve errors of rising rank, and a claim before each but the first: only the last claim is not torn ----
@@ -167,11 +185,15 @@ each_earlier_claim_is_torn : (in_progress plain rising_2 ≡ false) × (in_progr
     × (in_progress plain rising_8 ≡ false) × (in_progress plain rising_9 ≡ false)
     × (in_progress plain rising_10 ≡ false) × (in_progress plain rising_11 ≡ false)
     × (in_progress plain rising_12 ≡ false)
-unfolding outcome wrote in_progress since is_logged control_fields status_fields status_spare flag bits level_of is_counted is_ce counted is_any is_shown_after came_at shown greatest_of rank_of severity_of severity_number has_severity is_multiple number_in
+unfolding outcome wrote in_progress since is_logged control_fields status_fields status_spare flag bits level_of
+    is_counted is_ce counted is_any is_shown_after came_at shown greatest_of rank_of severity_of severity_number
+    has_severity is_multiple number_in
 each_earlier_claim_is_torn = (refl, refl, refl, refl, refl, refl, refl, refl, refl, refl, refl)
 
 twelfth_claim_is_not_torn : status_fields 0xc00ff ≡ fields_of plain (Claimed ∷ rising_12)
-unfolding outcome wrote in_progress since is_logged control_fields status_fields status_spare flag bits level_of is_counted is_ce counted is_any is_shown_after came_at shown greatest_of rank_of severity_of severity_number has_severity is_multiple number_in
+unfolding outcome wrote in_progress since is_logged control_fields status_fields status_spare flag bits level_of
+    is_counted is_ce counted is_any is_shown_after came_at shown greatest_of rank_of severity_of severity_number
+    has_severity is_multiple number_in
 twelfth_claim_is_not_torn = refl
 
 -- ---- Ranks: an equal one and a smaller one are kept out ----
@@ -189,39 +211,55 @@ abbrev ranked_middle : Error
 ranked_middle = error 4 Ued 3 6 0 0
 
 ranked_first_outcome : outcome plain [] ranked_first ≡ Wrote 1
-unfolding outcome wrote in_progress since is_logged control_fields status_fields status_spare flag bits level_of is_counted is_ce counted is_any is_shown_after came_at shown greatest_of rank_of severity_of severity_number has_severity is_multiple number_in
+unfolding outcome wrote in_progress since is_logged control_fields status_fields status_spare flag bits level_of
+    is_counted is_ce counted is_any is_shown_after came_at shown greatest_of rank_of severity_of severity_number
+    has_severity is_multiple number_in
 ranked_first_outcome = refl
 
 ranked_first_shows : status_fields 0x30013 ≡ fields_of plain (Reported ranked_first ∷ [])
-unfolding outcome wrote in_progress since is_logged control_fields status_fields status_spare flag bits level_of is_counted is_ce counted is_any is_shown_after came_at shown greatest_of rank_of severity_of severity_number has_severity is_multiple number_in
+unfolding outcome wrote in_progress since is_logged control_fields status_fields status_spare flag bits level_of
+    is_counted is_ce counted is_any is_shown_after came_at shown greatest_of rank_of severity_of severity_number
+    has_severity is_multiple number_in
 ranked_first_shows = refl
 
 ranked_equal_outcome : outcome plain (Reported ranked_first ∷ []) ranked_equal ≡ Kept
-unfolding outcome wrote in_progress since is_logged control_fields status_fields status_spare flag bits level_of is_counted is_ce counted is_any is_shown_after came_at shown greatest_of rank_of severity_of severity_number has_severity is_multiple number_in
+unfolding outcome wrote in_progress since is_logged control_fields status_fields status_spare flag bits level_of
+    is_counted is_ce counted is_any is_shown_after came_at shown greatest_of rank_of severity_of severity_number
+    has_severity is_multiple number_in
 ranked_equal_outcome = refl
 
 ranked_equal_shows : status_fields 0x30053 ≡ fields_of plain (Reported ranked_equal ∷ Reported ranked_first ∷ [])
-unfolding outcome wrote in_progress since is_logged control_fields status_fields status_spare flag bits level_of is_counted is_ce counted is_any is_shown_after came_at shown greatest_of rank_of severity_of severity_number has_severity is_multiple number_in
+unfolding outcome wrote in_progress since is_logged control_fields status_fields status_spare flag bits level_of
+    is_counted is_ce counted is_any is_shown_after came_at shown greatest_of rank_of severity_of severity_number
+    has_severity is_multiple number_in
 ranked_equal_shows = refl
 
 ranked_greater_outcome : outcome plain (Reported ranked_equal ∷ Reported ranked_first ∷ []) ranked_greater ≡ Wrote 2
-unfolding outcome wrote in_progress since is_logged control_fields status_fields status_spare flag bits level_of is_counted is_ce counted is_any is_shown_after came_at shown greatest_of rank_of severity_of severity_number has_severity is_multiple number_in
+unfolding outcome wrote in_progress since is_logged control_fields status_fields status_spare flag bits level_of
+    is_counted is_ce counted is_any is_shown_after came_at shown greatest_of rank_of severity_of severity_number
+    has_severity is_multiple number_in
 ranked_greater_outcome = refl
 
 ranked_greater_shows : status_fields 0x5000b
     ≡ fields_of plain (Reported ranked_greater ∷ Reported ranked_equal ∷ Reported ranked_first ∷ [])
-unfolding outcome wrote in_progress since is_logged control_fields status_fields status_spare flag bits level_of is_counted is_ce counted is_any is_shown_after came_at shown greatest_of rank_of severity_of severity_number has_severity is_multiple number_in
+unfolding outcome wrote in_progress since is_logged control_fields status_fields status_spare flag bits level_of
+    is_counted is_ce counted is_any is_shown_after came_at shown greatest_of rank_of severity_of severity_number
+    has_severity is_multiple number_in
 ranked_greater_shows = refl
 
 ranked_middle_outcome : outcome plain (Reported ranked_greater ∷ Reported ranked_equal ∷ Reported ranked_first ∷ [])
     ranked_middle ≡ Kept
-unfolding outcome wrote in_progress since is_logged control_fields status_fields status_spare flag bits level_of is_counted is_ce counted is_any is_shown_after came_at shown greatest_of rank_of severity_of severity_number has_severity is_multiple number_in
+unfolding outcome wrote in_progress since is_logged control_fields status_fields status_spare flag bits level_of
+    is_counted is_ce counted is_any is_shown_after came_at shown greatest_of rank_of severity_of severity_number
+    has_severity is_multiple number_in
 ranked_middle_outcome = refl
 
 ranked_middle_shows : status_fields 0x5000f
     ≡ fields_of plain (Reported ranked_middle ∷ Reported ranked_greater ∷ Reported ranked_equal
     ∷ Reported ranked_first ∷ [])
-unfolding outcome wrote in_progress since is_logged control_fields status_fields status_spare flag bits level_of is_counted is_ce counted is_any is_shown_after came_at shown greatest_of rank_of severity_of severity_number has_severity is_multiple number_in
+unfolding outcome wrote in_progress since is_logged control_fields status_fields status_spare flag bits level_of
+    is_counted is_ce counted is_any is_shown_after came_at shown greatest_of rank_of severity_of severity_number
+    has_severity is_multiple number_in
 ranked_middle_shows = refl
 
 -- ---- The same errors where the record is not enabled ----
@@ -231,7 +269,9 @@ off = record { control = 0x94; count = 0 }
 
 none_logged : since off (Reported ranked_middle ∷ Reported ranked_greater ∷ Reported ranked_equal
     ∷ Reported ranked_first ∷ []) ≡ []
-unfolding outcome wrote in_progress since is_logged control_fields status_fields status_spare flag bits level_of is_counted is_ce counted is_any is_shown_after came_at shown greatest_of rank_of severity_of severity_number has_severity is_multiple number_in
+unfolding outcome wrote in_progress since is_logged control_fields status_fields status_spare flag bits level_of
+    is_counted is_ce counted is_any is_shown_after came_at shown greatest_of rank_of severity_of severity_number
+    has_severity is_multiple number_in
 none_logged = refl
 
 all_disabled : (outcome off [] ranked_first ≡ Disabled)
@@ -239,13 +279,17 @@ all_disabled : (outcome off [] ranked_first ≡ Disabled)
     × (outcome off (Reported ranked_equal ∷ Reported ranked_first ∷ []) ranked_greater ≡ Disabled)
     × (outcome off (Reported ranked_greater ∷ Reported ranked_equal ∷ Reported ranked_first ∷ []) ranked_middle
     ≡ Disabled)
-unfolding outcome wrote in_progress since is_logged control_fields status_fields status_spare flag bits level_of is_counted is_ce counted is_any is_shown_after came_at shown greatest_of rank_of severity_of severity_number has_severity is_multiple number_in
+unfolding outcome wrote in_progress since is_logged control_fields status_fields status_spare flag bits level_of
+    is_counted is_ce counted is_any is_shown_after came_at shown greatest_of rank_of severity_of severity_number
+    has_severity is_multiple number_in
 all_disabled = (refl, refl, refl, refl)
 
 off_shows : status_fields 0
     ≡ fields_of off (Reported ranked_middle ∷ Reported ranked_greater ∷ Reported ranked_equal ∷ Reported ranked_first
     ∷ [])
-unfolding outcome wrote in_progress since is_logged control_fields status_fields status_spare flag bits level_of is_counted is_ce counted is_any is_shown_after came_at shown greatest_of rank_of severity_of severity_number has_severity is_multiple number_in
+unfolding outcome wrote in_progress since is_logged control_fields status_fields status_spare flag bits level_of
+    is_counted is_ce counted is_any is_shown_after came_at shown greatest_of rank_of severity_of severity_number
+    has_severity is_multiple number_in
 off_shows = refl
 
 -- ---- The count wraps: the error at which it does is logged ----
@@ -265,10 +309,14 @@ corrected_3 = error 3 Ce 0 7 0 0
 wraps_at_the_second : (outcome counting [] corrected_1 ≡ Counted)
     × (outcome counting (Reported corrected_1 ∷ []) corrected_2 ≡ Wrote 1)
     × (outcome counting (Reported corrected_2 ∷ Reported corrected_1 ∷ []) corrected_3 ≡ Counted)
-unfolding outcome wrote in_progress since is_logged control_fields status_fields status_spare flag bits level_of is_counted is_ce counted is_any is_shown_after came_at shown greatest_of rank_of severity_of severity_number has_severity is_multiple number_in
+unfolding outcome wrote in_progress since is_logged control_fields status_fields status_spare flag bits level_of
+    is_counted is_ce counted is_any is_shown_after came_at shown greatest_of rank_of severity_of severity_number
+    has_severity is_multiple number_in
 wraps_at_the_second = (refl, refl, refl)
 
 wrapped_shows : status_fields 0x100070103
     ≡ fields_of counting (Reported corrected_3 ∷ Reported corrected_2 ∷ Reported corrected_1 ∷ [])
-unfolding outcome wrote in_progress since is_logged control_fields status_fields status_spare flag bits level_of is_counted is_ce counted is_any is_shown_after came_at shown greatest_of rank_of severity_of severity_number has_severity is_multiple number_in
+unfolding outcome wrote in_progress since is_logged control_fields status_fields status_spare flag bits level_of
+    is_counted is_ce counted is_any is_shown_after came_at shown greatest_of rank_of severity_of severity_number
+    has_severity is_multiple number_in
 wrapped_shows = refl

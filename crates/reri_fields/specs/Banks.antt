@@ -1,9 +1,7 @@
 -- A bank of error records: what can happen to it, what of that happened to one record, when the bank asks to be
--- drained,
--- and which of its records are signalled.
--- A bank of records and the levels follow RERI 1.0 (an error bank, and the signal codes of `control_i`). The ask flag,
--- and
--- that a drain goes by the least record that is signalled, are this project's own.
+-- drained, and which of its records are signalled. A bank of records and the levels follow RERI 1.0 (an error bank,
+-- and the signal codes of `control_i`). The ask flag, and that a drain goes by the least record that is signalled, are
+-- this project's own.
 use Rattle.std.specs.Prelude.{◌≡◌, ℕ, ◌<◌, nat_lt, ◌==◌, Bool, true, false, ◌&&◌, ◌||◌, if◌then◌else◌, List, [], ◌∷◌, length, find, slice_get, Option, Some, None}
 use Rattle.std.specs.List.{range_with_len}
 use Rattle.std.specs.Option.{option_map_or}
@@ -18,10 +16,8 @@ use Rattle.reri_fields.specs.Outcome.{outcome}
 -- ---- What can happen to a bank ----
 
 -- An error was reported (its report names the record), somebody set read-in-progress of a record, somebody tried to
--- clear
--- one, a search for a signalled record found none. A history has the newest event first. An event that names no record
--- of
--- the bank means nothing.
+-- clear one, a search for a signalled record found none. A history has the newest event first. An event that names no
+-- record of the bank means nothing.
 pub data BankEvent : Type 0 where
   Logs : Error → BankEvent
   Claims : ℕ → BankEvent

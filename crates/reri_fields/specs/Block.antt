@@ -52,14 +52,16 @@ is_uncorrected copy = has_worst Ued copy || has_worst Uec copy
 
 -- whether two such copies stand, or one for which two or more errors of its greatest severity came
 unfoldable pub are_several : (RecordCopy → Bool) → List RecordCopy → Bool
-are_several chosen copies = nat_lt 1 (count_by chosen copies) || list_any (λ copy. chosen copy && (status_fields copy.status).multiple) copies
+are_several chosen copies =
+    nat_lt 1 (count_by chosen copies) || list_any (λ copy. chosen copy && (status_fields copy.status).multiple) copies
 
 -- Block Status: bit 0 uncorrectable, bit 1 correctable, bit 2 multiple uncorrectable, bit 3 multiple correctable, and
 -- the number of entries in bits 4 to 13
 unfoldable pub block_status : List RecordCopy → ℕ
 block_status copies =
     (if list_any is_uncorrected copies then 1 else 0) + (if list_any is_corrected copies then 2 else 0)
-    + (if are_several is_uncorrected copies then 4 else 0) + (if are_several is_corrected copies then 8 else 0) + 16 * length copies
+    + (if are_several is_uncorrected copies then 4 else 0) +
+    (if are_several is_corrected copies then 8 else 0) + 16 * length copies
 
 -- Error Severity: 1 fatal where some copy's greatest severity is UEC, else 0 recoverable where some copy's is UED, else
 -- 2 corrected
@@ -68,17 +70,19 @@ error_severity copies = if list_any (has_worst Uec) copies then 1 else if list_a
 
 -- Generic Error Status Block: Block Status, Raw Data Offset, Raw Data Length, Data Length, Error Severity
 unfoldable pub header : List RecordCopy → List ℕ
-header copies = digits 4 (block_status copies) ++ digits 4 0 ++ digits 4 0 ++ digits 4 (120 * length copies) ++ digits 4 (error_severity copies)
+header copies = digits 4 (block_status copies) ++ digits 4 0 ++ digits 4 0 ++ digits 4 (120 * length copies)
+    ++ digits 4 (error_severity copies)
 
 unfoldable pub section_type : List ℕ
 section_type = codes "RERI-RECORD-0001"
 
 -- the section: the six registers in their order
 unfoldable pub section : RecordCopy → List ℕ
-section copy = digits 8 copy.control ++ digits 8 copy.status ++ digits 8 copy.address ++ digits 8 copy.info ++ digits 8 copy.supplement ++ digits 8 copy.time
+section copy = digits 8 copy.control ++ digits 8 copy.status ++ digits 8 copy.address ++ digits 8 copy.info
+    ++ digits 8 copy.supplement ++ digits 8 copy.time
 
--- Generic Error Data Entry: Section Type, Error Severity of this copy alone, Revision, Validation Bits, Flags, Error Data
--- Length, FRU Id, FRU Text, Timestamp, and the section
+-- Generic Error Data Entry: Section Type, Error Severity of this copy alone, Revision, Validation Bits, Flags,
+-- Error Data Length, FRU Id, FRU Text, Timestamp, and the section
 unfoldable pub entry : RecordCopy → List ℕ
 entry copy =
     section_type ++ digits 4 (error_severity (copy ∷ [])) ++ digits 2 0x0300 ++ zeros 1 ++ zeros 1 ++ digits 4 48

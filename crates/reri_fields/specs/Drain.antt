@@ -1,9 +1,8 @@
 -- The drain of a bank: how firmware takes errors out of a bank's records, one phase a step, while errors go on coming.
 -- Read-in-progress and the invalidation are those of RERI 1.0 (`srdp` and `sinv` of `control_i`, `rdip` of
--- `status_i`). That
--- a slot of copies is acknowledged and then free again follows ACPI 6.5, 18.3.2.7 (GHESv2). The nine phases, up to how
--- many
--- copies a drain gathers, and that it signals once, at the greatest level, are this project's own.
+-- `status_i`). That a slot of copies is acknowledged and then free again follows ACPI 6.5, 18.3.2.8 (GHESv2). The nine
+-- phases, up to how many copies a drain gathers, and that it signals once, at the greatest level, are this project's
+-- own.
 use Rattle.std.specs.Prelude.{ℕ, suc, max, nat_lt, ◌==◌, Bool, true, false, ◌&&◌, if◌then◌else◌, List, [], ◌∷◌, ◌++◌, slice_get, Option, Some, None}
 use Rattle.std.specs.Option.{option_map}
 use Rattle.reri_fields.specs.declared.report.RecordCopy.{RecordCopy}
@@ -26,8 +25,7 @@ pub record BankPlan : Type 0 where
   pub gather : ℕ
 
 -- A drain that is under way: the phase that its next step takes, the record that it has taken (0 where it has none),
--- how
--- many copies it has published so far, and the greatest level of these, 0 where there are none.
+-- how many copies it has published so far, and the greatest level of these, 0 where there are none.
 pub record Draining : Type 0 where
   pub phase : Phase
   pub rec : ℕ
@@ -41,8 +39,7 @@ pub record Publication : Type 0 where
   pub copy : RecordCopy
 
 -- What happened to the bank and what was published, the newest first; the copies that its slot holds, the oldest
--- first; and
--- its drain, where one is under way.
+-- first; and its drain, where one is under way.
 pub record BankState : Type 0 where
   pub history : List BankEvent
   pub published : List Publication
@@ -195,8 +192,7 @@ pub data BankTry : Type 0 where
   Acknowledges : BankTry
 
 -- What such a step came to: what became of an error (none where the bank has not the record that it names), the record
--- and
--- the note of a drain's step, and whether an acknowledgement found the slot full.
+-- and the note of a drain's step, and whether an acknowledgement found the slot full.
 pub data BankNote : Type 0 where
   Heard : Report → Option Logged → BankNote
   Drew : ℕ → DrainNote → BankNote

@@ -1,6 +1,6 @@
 -- The fields of the two words of an error record, `control` and `status`.
 -- Severities, their order, and the signal codes follow RERI 1.0 (the registers `control_i` and `status_i` of an
--- error record). The places of the bits are this project's own.
+-- error record). The places of the bits, `counting`, the count and its overflow are this project's own.
 use Rattle.std.specs.Prelude.{ℕ, ◌+◌, ◌*◌, ◌/◌, ◌%◌, ◌^◌, ◌==◌, Bool, if◌then◌else◌, Option, Some, None}
 use Rattle.reri_fields.specs.declared.severity.Severity.{Severity}
 use Rattle.reri_fields.specs.declared.severity.Severity.TheVariants.{Ce, Ued, Uec}

@@ -1,6 +1,5 @@
 -- An error record as six words in a row, in a list of words that holds more. The layout is this project's own: the
--- registers
--- in the order control, status, address, info, supplement, time.
+-- registers in the order control, status, address, info, supplement, time.
 use Rattle.std.specs.Prelude.{◌≡◌, ℕ, ◌+◌, List, [], ◌∷◌, slice_index, slice_set}
 use Rattle.reri_fields.specs.declared.report.RecordCopy.{RecordCopy}
 

@@ -8,7 +8,7 @@ use crate::bits::{field, flag_at, with_field, with_flag_at};
 use crate::severity::Severity;
 
 /// The control word of an error record: what it logs, and how each severity is signalled. The fields mean what RERI 1.0
-/// says of `control_i`; their places are this project's own.
+/// says of `control_i`, but for `counting`; that field and all places are this project's own.
 ///
 /// The setters take a value that fits its field, and leave every other bit as it was.
 #[derive(Clone, Copy, PartialEq, Eq, Debug, Drop)]
@@ -61,7 +61,7 @@ impl Control {
         Control(with_field(self.0, 2, 2, value as u64))
     }
 
-    /// The signal code of contained uncorrected errors, 0 to 3 (bits 4 and 5).
+    /// The signal code of uncorrected errors that are deferred, 0 to 3 (bits 4 and 5).
     pub fn ued_signal(self) -> u8
         ensures { result ≡ (control_fields self.0).ued_signal }
     {
@@ -77,7 +77,7 @@ impl Control {
         Control(with_field(self.0, 4, 2, value as u64))
     }
 
-    /// The signal code of the other uncorrected errors, 0 to 3 (bits 6 and 7).
+    /// The signal code of critical uncorrected errors, 0 to 3 (bits 6 and 7).
     pub fn uec_signal(self) -> u8
         ensures { result ≡ (control_fields self.0).uec_signal }
     {

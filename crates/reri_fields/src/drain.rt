@@ -2,8 +2,8 @@
 
 use crate::report::RecordCopy;
 
-/// The phases of a drain, which takes one of them a step: it looks for a signalled record, claims it, reads its registers,
-/// publishes a copy of them where no error came between, clears the record, and signals at the end.
+/// The phases of a drain, which takes one of them a step: it looks for a signalled record, claims it, reads its
+/// registers, publishes a copy of them where no error came between, clears the record, and signals at the end.
 #[derive(Clone, Copy, PartialEq, Eq, Debug, Drop)]
 pub enum Phase {
     /// Looks for the least signalled record.

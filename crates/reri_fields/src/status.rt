@@ -8,7 +8,8 @@ use crate::bits::{field, flag_at, with_field, with_flag_at};
 use crate::severity::Severity;
 
 /// The status word of an error record: whether it holds an error, and which. The fields mean what RERI 1.0 says of
-/// `status_i`; their places, the count and its overflow are this project's own.
+/// `status_i`; their places, the count with its overflow, when several errors are told by `multiple`, and that a record
+/// which isn't valid reads 0 but for the count and its overflow, are this project's own.
 ///
 /// The setters take a value that fits its field, and leave every other bit as it was.
 #[derive(Clone, Copy, PartialEq, Eq, Debug, Drop)]
@@ -45,7 +46,7 @@ impl Status {
         Status(with_flag_at(self.0, 1, value))
     }
 
-    /// Whether it holds a contained uncorrected error (bit 2).
+    /// Whether it holds an uncorrected error that is deferred (bit 2).
     pub fn ued(self) -> bool
         ensures { result ≡ (status_fields self.0).ued }
     {
@@ -60,7 +61,7 @@ impl Status {
         Status(with_flag_at(self.0, 2, value))
     }
 
-    /// Whether it holds another uncorrected error (bit 3).
+    /// Whether it holds a critical uncorrected error (bit 3).
     pub fn uec(self) -> bool
         ensures { result ≡ (status_fields self.0).uec }
     {

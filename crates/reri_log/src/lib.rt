@@ -21,14 +21,14 @@ use reri_fields::{Control, RecordCopy, Report, Severity, Status, put_record, rec
 ///
 /// - `Disabled`: the control word's enable bit is 0. Nothing changes.
 /// - `Counted`: the error is a CE under counting, and the count went up by 1 without wrapping. Nothing else changes.
-/// - `Wrote`: the error was logged and is the one that the record shows now. Read-in-progress is cleared. The level is the
-///   control word's signal code for the error's severity.
+/// - `Wrote`: the error was logged and is the one that the record shows now. Read-in-progress is cleared. The level is
+///   the control word's signal code for the error's severity.
 /// - `Kept`: the error was logged, and the record goes on showing an earlier one of at least its rank.
 pub fn log(rec: &mut RecordCopy, report: &Report) -> Logged
     requires { report.now.priority < 4 }
 
-    // For every history that the registers stand for, they stand afterwards for that history with this error as its newest
-    // event, and the answer is what the history says became of the error.
+    // For every history that the registers stand for, they stand afterwards for that history with this error as its
+    // newest event, and the answer is what the history says became of the error.
     ensures stands { (origin : Origin) (history : List Event) (step : ℕ) → AllBefore step history
         → Stands origin history rec.old
         → Stands origin (Reported (record { step = step; report = report.now }) ∷ history) rec.new }
@@ -48,8 +48,8 @@ pub fn log(rec: &mut RecordCopy, report: &Report) -> Logged
     enter(rec, report)
 }
 
-/// Logs one error into the record that stands in `words` from the place `at` on, and says what became of it, just as `log`
-/// does. No word but those six changes.
+/// Logs one error into the record that stands in `words` from the place `at` on, and says what became of it, just as
+/// `log` does. No word but those six changes.
 pub fn log_words(words: &mut [u64], at: usize, report: &Report) -> Logged
     requires priority { report.now.priority < 4 }
     requires room { at + 6 ≤ length words.old }

@@ -9,3 +9,5 @@ mod notes;
 mod plans;
 #[cfg(test)]
 mod refusals;
+#[cfg(test)]
+mod texts;

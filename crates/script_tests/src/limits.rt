@@ -82,3 +82,10 @@ fn takes_what_stands_at_its_limit(rt: HostRuntime) -> Result<(), Fail> {
     );
     Ok(())
 }
+
+#[test]
+fn counts_a_million_lines(rt: HostRuntime) -> Result<(), Fail> {
+    let text = repeated(rt.alloc(), b"", b"\n", b"", 1_048_576)?;
+    assert!(rt; is_refused(rt.alloc(), text.as_slice(), 1_048_577, LineFault::Head));
+    Ok(())
+}

@@ -28,7 +28,8 @@ same_id (Global a) (Local b k) e = cc
 same_id (Global a) (Global b) e = grind (arith, nat_tests)
 
 -- an instance stands at its place
-pub at_its_place : (at : Instance) (is : List Instance) (d : Instance) → place at is < length is → get_or is (place at is) d ≡ at
+pub at_its_place : (at : Instance) (is : List Instance) (d : Instance) → place at is < length is →
+    get_or is (place at is) d ≡ at
 at_its_place at [] d h = absurd (omega arith)
 at_its_place at (x ∷ is) d h =
     elim (same_instance x at) as (λ b. same_instance x at ≡ b → get_or (x ∷ is) (cond b 0 (suc (place at is))) d ≡ at) [
@@ -37,7 +38,8 @@ at_its_place at (x ∷ is) d h =
     ] refl
 
 -- a hart on which an instance is delivered is one on which it may run
-pub target_may_run : (h : ℕ) (at : Instance) (preferred : ℕ) (masks : List Bool) → is_hart h (target at preferred masks) ≡ true → may_run_on h at ≡ true
+pub target_may_run : (h : ℕ) (at : Instance) (preferred : ℕ) (masks : List Bool) →
+    is_hart h (target at preferred masks) ≡ true → may_run_on h at ≡ true
 unfolding target
 target_may_run h (Local id k) preferred masks e = e
 target_may_run h (Global id) preferred masks e = refl

@@ -59,7 +59,8 @@ swap a b (v ∷ vs) d =
                 ap (put_in a) (before_it b v vs q) ∙ behind_it a v (put_in b vs) p
                 ∙ sym (ap (put_in b) (behind_it a v vs p) ∙ one_in_front b a v vs q p)
             | false ↦ λ q.
-                ap (put_in a) (behind_it b v vs q) ∙ two_in_front a b (v ∷ vs) d (behind_it a v vs p) (behind_it b v vs q)
+                ap (put_in a) (behind_it b v vs q)
+                ∙ two_in_front a b (v ∷ vs) d (behind_it a v vs p) (behind_it b v vs q)
                 ∙ sym (ap (put_in b) (behind_it a v vs p))
           ] refl
     ] refl

@@ -1,3 +1,4 @@
+-- Goals of `log` that the tactics leave open.
 use Rattle.std.proofs.Common.{sym, ◌∙◌}
 use Rattle.reri_fields.specs.declared.report.Logged.TheVariants.{Disabled, Counted}
 use Rattle.reri_log.specs.Update.{Updates}

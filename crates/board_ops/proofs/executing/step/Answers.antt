@@ -5,8 +5,8 @@ use Rattle.board_ops.proofs.executing.step.Goals as goal
 
 pub returns-then-illegal : goal.returns-then-illegal
 returns-then-illegal c =
-    illegal c.args.hart c.args.firmware.now c.pass.new.firmware c.args.op (sym c.is_illegal-illegal.ensures
-    ∙ c.if-illegal.true)
+    illegal c.args.hart c.args.firmware.now c.pass.new.firmware c.args.op
+    (sym c.is_illegal-illegal.ensures ∙ c.if-illegal.true)
     c.pass.ensures
 
 pub returns : goal.returns

@@ -1,3 +1,4 @@
+-- What the loop of `put_next_hexes` keeps.
 use Rattle.std.proofs.Common.{◌≡◌, ◌+◌, ◌*◌, ◌≤◌, ◌++◌, map, length, take}
 use Rattle.ras_text.specs.Numbers.{hexadecimal}
 use Rattle.ras_text.specs.Lines.{text_of, sink_of, SameSink}

@@ -1,3 +1,4 @@
+-- What the loop of `copy_reporters` keeps.
 use Rattle.std.proofs.Common.{◌≡◌, take}
 use Rattle.board_plan.proofs.plan.copy_reporters.Given as goal
 

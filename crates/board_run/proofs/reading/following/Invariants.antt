@@ -1,3 +1,4 @@
+-- What the loop of `following` keeps.
 use Rattle.std.proofs.Common.{◌≡◌, length}
 use Rattle.first_form.specs.FirstForm.{following, begun, pieces}
 use Rattle.board_run.proofs.reading.following.Given as goal

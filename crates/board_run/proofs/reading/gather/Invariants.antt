@@ -1,3 +1,4 @@
+-- What the loop of `gather` keeps.
 use Rattle.std.proofs.Common.{◌≡◌, ◌++◌, length}
 use Rattle.first_form.specs.FirstForm.{fields}
 use Rattle.board_run.specs.Reading.{texts}

@@ -1,3 +1,4 @@
+-- What the loop of `place_of` keeps.
 use Rattle.std.proofs.Common.{ℕ, ◌<◌, ◌≢◌, slice_index}
 use Rattle.board_run.proofs.reading.place_of.Given as goal
 

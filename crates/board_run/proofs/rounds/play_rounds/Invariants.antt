@@ -1,3 +1,4 @@
+-- What the loop of `play_rounds` keeps.
 use Rattle.std.proofs.Common.{◌≤◌, ◌-◌, length, vec_capacity}
 use Rattle.board_run.specs.Reading.{plan_of}
 use Rattle.board_run.specs.Rounds.{IsAfter}

@@ -1,3 +1,4 @@
+-- What the loop of `begin` keeps.
 use Rattle.std.proofs.Common.{◌≡◌, ◌+◌, ◌≤◌, length}
 use Rattle.ras_text.specs.Pieces.{lines}
 use Rattle.board_plan.specs.Script.{begin}

@@ -1,3 +1,4 @@
+-- What the loop of `gather` keeps.
 use Rattle.std.proofs.Common.{◌≡◌, ◌++◌}
 use Rattle.ras_text.specs.Pieces.{words}
 use Rattle.board_script.specs.Reading.{texts}

@@ -1,3 +1,4 @@
+-- What the loop of `with_entries` keeps.
 use Rattle.std.proofs.Common.{◌≡◌, drop}
 use Rattle.board_plan.specs.Script.{with_entries}
 use Rattle.board_script.specs.Reading.{texts}

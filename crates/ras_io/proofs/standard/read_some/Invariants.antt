@@ -1,3 +1,4 @@
+-- What the loop of `read_some` keeps.
 use Rattle.std.specs.Io.KnownBytes.{Keeps}
 use Rattle.ras_io.proofs.standard.read_some.Given as goal
 

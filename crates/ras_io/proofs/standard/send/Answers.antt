@@ -1,3 +1,4 @@
+-- Goals of `send` that the tactics leave open.
 use Rattle.std.proofs.Common.{take, arith, sym, subst}
 use Rattle.std.proofs.Math.Seq.{take-add}
 use Rattle.std.proofs.KnownBytes.{Appends-trans}

@@ -1,3 +1,4 @@
+-- What the loop of `send` keeps.
 use Rattle.std.proofs.Common.{length, take, ◌-◌, ◌≤◌}
 use Rattle.std.specs.Io.KnownBytes.{Appends}
 use Rattle.ras_io.proofs.standard.send.Given as goal

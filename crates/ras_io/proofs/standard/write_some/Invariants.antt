@@ -1,3 +1,4 @@
+-- What the loop of `write_some` keeps.
 use Rattle.std.specs.Io.KnownBytes.{Keeps}
 use Rattle.ras_io.proofs.standard.write_some.Given as goal
 

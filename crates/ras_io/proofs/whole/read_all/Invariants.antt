@@ -1,3 +1,4 @@
+-- What the loop of `read_all` keeps.
 use Rattle.std.proofs.Common.{◌≡◌, ◌≤◌, length, ◌+◌, ◌-◌}
 use Rattle.std.specs.Io.KnownBytes.{Consumes}
 use Rattle.ras_io.proofs.whole.read_all.Given as goal

@@ -1,3 +1,4 @@
+-- What the loop of `listed` keeps.
 use Rattle.std.proofs.Common.{length}
 use Rattle.ras_tests.proofs.texts.listed.Given as goal
 

@@ -1,3 +1,4 @@
+-- Goals of `write_digits` that the tactics leave open.
 use Rattle.std.proofs.Common.{◌-◌, arith, ◌∙◌, refl, inl, inr}
 use Rattle.std.proofs.Math.ListN.{length-set}
 use Rattle.ras_text.proofs.Glyphs.{hex_start, hex_last, hex_more, fewer}

@@ -1,3 +1,4 @@
+-- What the loop of `write_digits` keeps.
 use Rattle.std.proofs.Common.{◌≡◌, ◌<◌, ◌≤◌, false, drop, ◌+◌, ◌^◌, ◌⊎◌, length}
 use Rattle.std.specs.Fmt.{digits}
 use Rattle.ras_text.proofs.Glyphs.{hex_onto}

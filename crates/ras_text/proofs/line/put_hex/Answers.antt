@@ -1,3 +1,4 @@
+-- Goals of `put_hex` that the tactics leave open.
 use Rattle.std.proofs.Common.{◌∙◌, arith}
 use Rattle.std.proofs.lemmas.Grind.{common_steps}
 use Rattle.ras_text.specs.Numbers.{hexadecimal}

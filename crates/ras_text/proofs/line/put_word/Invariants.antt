@@ -1,3 +1,4 @@
+-- What the loop of `put_word` keeps.
 use Rattle.std.proofs.Common.{◌≡◌, ◌++◌, take}
 use Rattle.ras_text.specs.Lines.{text_of, sink_of, SameSink}
 use Rattle.ras_text.proofs.line.put_word.Given as goal

@@ -1,3 +1,4 @@
+-- What the loop of `newline_in` keeps.
 use Rattle.std.proofs.Common.{ℕ, ◌<◌, ◌≢◌, slice_index}
 use Rattle.ras_text.proofs.lines.newline_in.Given as goal
 

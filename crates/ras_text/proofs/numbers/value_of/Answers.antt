@@ -1,3 +1,4 @@
+-- Goals of `value_of` that the tactics leave open.
 use Rattle.std.proofs.Common.{◌<◌, length, arith, sym, ◌∙◌}
 use Rattle.std.proofs.lemmas.Grind.{common_steps}
 use Rattle.ras_text.proofs.Values.{value_is, not_digit, over, ended}

@@ -1,3 +1,4 @@
+-- What the loop of `value_of` keeps.
 use Rattle.std.proofs.Common.{◌≡◌, drop}
 use Rattle.ras_text.proofs.Values.{onto}
 use Rattle.ras_text.proofs.numbers.value_of.Given as goal

@@ -1,3 +1,4 @@
+-- Goals of `cleared` that the tactics leave open.
 use Rattle.std.proofs.Common.{refl, ap, ◌∙◌}
 use Rattle.reri_fields.specs.Fields.{StatusFields}
 use Rattle.reri_fields.proofs.Fresh.{zero_fields, zero_spare}

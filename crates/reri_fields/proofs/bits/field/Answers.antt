@@ -1,3 +1,4 @@
+-- Goals of `field` that the tactics leave open.
 use Rattle.std.proofs.lemmas.Nat.{and_mask, one_shl}
 use Rattle.reri_fields.specs.Fields.{bits}
 use Rattle.reri_fields.proofs.bits.field.Goals as goal

@@ -1,3 +1,4 @@
+-- Goals of `flag_at` that the tactics leave open.
 use Rattle.std.proofs.Common.{ap}
 use Rattle.std.specs.Prelude.{nat_eq}
 use Rattle.reri_fields.specs.Fields.{flag}

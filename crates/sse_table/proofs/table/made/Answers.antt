@@ -1,3 +1,4 @@
+-- Goals of `made` that the tactics leave open.
 use Rattle.std.proofs.Common.{◌≤◌, length, arith}
 use Rattle.std.proofs.lemmas.List.{length-replicate}
 use Rattle.sse_table.proofs.Orders.{few_on_board, few_instances, as_many_events, order_length}

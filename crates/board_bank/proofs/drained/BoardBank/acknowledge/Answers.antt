@@ -25,5 +25,5 @@ returns c =
     let parts : BankParts = record { bank = i.bank; slot = i.slot; drain = i.drain.drain; gather = i.gather } in
     subst (λ slot. Makes plan s Acknowledges (Acknowledged c.acknowledge.result) (record parts { slot = slot }))
     (sym c.acknowledge.ensures.free)
-    (acknowledges plan s parts c.acknowledge.result (subst (StandsFor plan s)
-    (sym c.self.view_is) h) c.acknowledge.ensures.full)
+    (acknowledges plan s parts c.acknowledge.result
+    (subst (StandsFor plan s) (sym c.self.view_is) h) c.acknowledge.ensures.full)

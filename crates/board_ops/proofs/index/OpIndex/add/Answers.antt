@@ -20,6 +20,6 @@ returns-in-Ok c = λ ops h.
       finds = λ q. c.in-Ok.ensures.updates.0 q
           ∙ ap (λ b. cond b (Some p.op) (get nat_cmp c.args.self.now.by_pc q)) (unsigned_tied p.pc q)
           ∙ ap (cond (p.pc == q) (Some p.op)) (h.finds q)
-          ∙ sym (first_there ops p q (ap is_some (sym (h.finds p.pc)) ∙ sym c.contains_key.ensures
-          ∙ c.if-contains_key.false));
+          ∙ sym (first_there ops p q
+          (ap is_some (sym (h.finds p.pc)) ∙ sym c.contains_key.ensures ∙ c.if-contains_key.false));
     }

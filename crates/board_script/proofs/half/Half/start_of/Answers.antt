@@ -1,3 +1,4 @@
+-- Goals of `start_of` that the tactics leave open.
 use Rattle.std.proofs.Common.{◌≡◌, ◌+◌, arith, ap, ◌∙◌}
 use Rattle.board_plan.specs.declared.plan.Start.{Start}
 use Rattle.board_plan.specs.Script.{total_budget}

@@ -1,3 +1,4 @@
+-- Goals of `add` that the tactics leave open.
 use Rattle.std.proofs.Common.{◌==◌, ap, sym, ◌∙◌, cond, Some}
 use Rattle.std.specs.Cmp.{unsigned_tied}
 use Rattle.std.specs.Ordering.{nat_cmp}

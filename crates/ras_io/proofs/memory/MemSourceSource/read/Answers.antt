@@ -1,3 +1,4 @@
+-- Goals of `read` that the tactics leave open.
 use Rattle.std.proofs.Common.{◌≡◌, ◌≤◌, length, take, drop, ◌++◌, arith, min, ap}
 use Rattle.std.proofs.lemmas.Grind.{common_steps}
 use Rattle.ras_io.proofs.Copied.{reads_front, reads_end}

@@ -1,3 +1,4 @@
+-- Goals of `flush` that the tactics leave open.
 use Rattle.std.proofs.Common.{◌≡◌, ◌+◌, ◌++◌, take, drop, sym, ap, ◌∙◌, subst}
 use Rattle.std.proofs.lemmas.List.{take-append-drop, drop-drop}
 use Rattle.std.proofs.KnownBytes.{append_known-moved}

@@ -1,3 +1,4 @@
+-- Goals of `pass_on` that the tactics leave open.
 use Rattle.std.proofs.Common.{◌≡◌, [], take, drop, ap, ◌∙◌, subst}
 use Rattle.std.proofs.lemmas.List.{take-append-drop}
 use Rattle.std.specs.Io.KnownBytes.{Appends, append_known}

@@ -1,3 +1,4 @@
+-- Goals of `next` that the tactics leave open.
 use Rattle.std.proofs.Common.{◌≡◌, ◌+◌, ◌<◌, length, arith, sym, ap, ◌∙◌}
 use Rattle.std.proofs.lemmas.Grind.{common_steps}
 use Rattle.ras_text.specs.Pieces.{words}

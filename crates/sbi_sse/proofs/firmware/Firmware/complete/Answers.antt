@@ -1,3 +1,4 @@
+-- Goals of `complete` that the tactics leave open.
 use Rattle.std.proofs.Common.{◌<◌, Bool, List, length, set, ap, sym, subst, arith}
 use Rattle.sse_base.specs.Machine.{Machine}
 use Rattle.sse_base.specs.Events.{Events, IsOnBoard}

@@ -1,3 +1,4 @@
+-- Goals of `deliver` that the tactics leave open.
 use Rattle.std.proofs.Common.{◌<◌, Bool, false, List, length, set, ap, sym, ◌∙◌, subst, arith}
 use Rattle.std.proofs.lemmas.List.{length-set}
 use Rattle.sse_base.specs.Machine.{Machine}

@@ -1,3 +1,4 @@
+-- Goals of `new` that the tactics leave open.
 use Rattle.sbi_sse.proofs.Fresh.{fresh_kept, fresh_serves}
 use Rattle.sbi_sse.proofs.firmware.Firmware.new.Goals as goal
 

@@ -1,3 +1,4 @@
+-- Goals of `set_regs` that the tactics leave open.
 use Rattle.std.proofs.Common.{◌<◌, length, ap, ◌∙◌, arith}
 use Rattle.sse_base.specs.Contexts.{Stack}
 use Rattle.sse_base.specs.Machine.{Machine}

@@ -1,3 +1,4 @@
+-- Goals of `top` that the tactics leave open.
 use Rattle.std.proofs.Common.{◌<◌, length, ap, sym, arith}
 use Rattle.sse_base.specs.Machine.{Machine}
 use Rattle.sbi_sse.proofs.Keeps.{newest_stands, runs_on_board}

@@ -1,3 +1,4 @@
+-- Goals of `unmask` that the tactics leave open.
 use Rattle.std.proofs.Common.{rules, arith}
 use Rattle.std.proofs.lemmas.Grind.{common_steps}
 use Rattle.sbi_sse.proofs.Places.{stays}

@@ -1,3 +1,4 @@
+-- Goals of `write_range` that the tactics leave open.
 use Rattle.std.proofs.Common.{◌≡◌, ◌∙◌, ◌<◌, length, ap, sym, subst, take, arith}
 use Rattle.sse_base.specs.declared.codes.SbiCode.{SbiCode}
 use Rattle.sse_base.specs.declared.codes.SbiCode.TheVariants.{Success}

@@ -1,2 +1,0 @@
--- A board as what was played on it.
-pub mod Played

@@ -1,0 +1,13 @@
+-- After some words of memory their lines went out.
+use Rattle.std.proofs.Common.{◌≡◌, [], take}
+use Rattle.ras_text.specs.Lines.{text_of}
+use Rattle.board_plan.specs.Text.{word_lines}
+use Rattle.board_report.specs.Writing.{Adds, SamePages}
+use Rattle.board_report.proofs.walks.write_words.Given as goal
+
+abbrev pub invariant-loop-i : goal.invariant-loop-i
+invariant-loop-i g l = record {
+  empty : text_of l.pages.line ≡ [];
+  wrote : Adds g.K.Sink.written g.K.Sink.faults g.K.Sink.writes l.fn.pages l.pages (word_lines 0x80000000 (take l.i l.words));
+  same_pages : SamePages l.pages l.fn.pages;
+}

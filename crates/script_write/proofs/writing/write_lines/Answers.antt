@@ -1,0 +1,18 @@
+-- Goals of `write_lines` that the tactics leave open.
+use Rattle.std.proofs.Common.{refl}
+use Rattle.ras_io.proofs.Puts.{Puts-same}
+use Rattle.script_write.proofs.Progress.{progress-start, progress-more, progress-fault, progress-last}
+use Rattle.script_write.proofs.Wholes.{canonical_parts}
+use Rattle.script_write.proofs.writing.write_lines.Goals as goal
+
+pub returns-in-Err-clause-bytes : goal.returns-in-Err-clause-bytes
+returns-in-Err-clause-bytes g c =
+    Puts-same _ _ _ _ _ _ _ refl refl (canonical_parts c.args.plan.now)
+    (progress-fault _ _ _ _ _ _ c.in-Err.fault (progress-start _ _) c.in-Err.ensures.bytes)
+
+pub returns-clause-bytes : goal.returns-clause-bytes
+returns-clause-bytes g c =
+    Puts-same _ _ _ _ _ _ _ refl refl (canonical_parts c.args.plan.now)
+    (progress-last _ _ _ _ _ _
+    (progress-more _ _ _ _ _ _ c.in_default.field-0 (progress-start _ _) c.in_default.ensures.bytes)
+    c.write_runs.ensures.bytes)

@@ -1,0 +1,34 @@
+-- Goals of `write_starts` that the tactics leave open.
+use Rattle.std.proofs.Common.{◌∙◌}
+use Rattle.board_plan.specs.Canonical.{start_line}
+use Rattle.script_write.proofs.Progress.{progress-more, progress-fault, progress-end, progress-same}
+use Rattle.script_write.proofs.Wholes.{next_line, no_line}
+use Rattle.script_write.proofs.writing.write_starts.Goals as goal
+
+pub returns-in-Err-clause-bytes : goal.returns-in-Err-clause-bytes
+returns-in-Err-clause-bytes g c =
+    progress-fault _ _ _ _ _ _ c.in-Err.fault
+    (progress-same _ _ _ _ _
+    (next_line start_line c.args.starts.now c.loop-start.start-index _ c.loop-start-test.true)
+    c.loop-start.invariant.progress)
+    c.in-Err.ensures.bytes
+
+pub loop-start-preserved : goal.loop-start-preserved
+loop-start-preserved g c =
+    record {
+      empty = c.in_default.ensures.empty;
+      progress = progress-more _ _ _ _ _ _ c.in_default.field-0
+          (progress-same _ _ _ _ _
+          (next_line start_line c.args.starts.now c.loop-start.start-index _ c.loop-start-test.true)
+          c.loop-start.invariant.progress)
+          c.in_default.ensures.bytes;
+      faults = c.in_default.ensures.cause.kept ∙ c.loop-start.invariant.faults;
+      same_sink = c.in_default.ensures.same_sink ∙ c.loop-start.invariant.same_sink;
+    }
+
+pub returns-clause-bytes : goal.returns-clause-bytes
+returns-clause-bytes g c =
+    progress-end _ _ _ _
+    (progress-same _ _ _ _ _
+    (no_line start_line c.args.starts.now c.loop-start.start-index c.loop-start-test.false)
+    c.loop-start.invariant.progress)

@@ -1,0 +1,2 @@
+-- What the writer's own parts write, against the board book.
+pub mod Statements
