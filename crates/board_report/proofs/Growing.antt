@@ -10,12 +10,18 @@ use Rattle.board_report.specs.Writing.{State, Wrote, Grows, many}
 
 pub bytes_of-append : (xs ys : List (List ℕ)) → bytes_of (xs ++ ys) ≡ bytes_of xs ++ bytes_of ys
 bytes_of-append [] ys = refl
-bytes_of-append (x ∷ xs) ys = ap (λ bs. x ++ 10 ∷ bs) (bytes_of-append xs ys) ∙ sym (append_assoc x (10 ∷ bytes_of xs) (bytes_of ys))
+bytes_of-append (x ∷ xs) ys = ap (λ bs. x ++ 10 ∷ bs) (bytes_of-append xs ys)
+    ∙ sym (append_assoc x (10 ∷ bytes_of xs) (bytes_of ys))
 
 many-more : (n : ℕ) (xs ys : List (List ℕ)) → many (many n (length xs)) (length ys) ≡ many n (length (xs ++ ys))
 many-more n xs [] = ap (λ l. many n (length l)) (sym (append-nil xs))
 many-more n xs (y ∷ ys) =
-    let longer : suc (length (xs ++ ys)) ≡ length (xs ++ y ∷ ys) = omega (arith, length-append xs (y ∷ ys), length-append xs ys) in
+    let longer : suc (length (xs ++ ys)) ≡ length (xs ++ y ∷ ys) = omega (
+      arith,
+      length-append xs
+          (y ∷ ys),
+      length-append xs ys,
+    ) in
     ap one_more (many-more n xs ys) ∙ ap (λ (k : ℕ). many n k) longer
 
 -- how far pages are
@@ -45,14 +51,25 @@ grows-then a b d xs ys p q = go a.written b.written d.written a.faults b.faults 
     whole : (v w : Option (List ℕ)) → Appends v w (bytes_of xs ++ bytes_of ys) → Appends v w (bytes_of (xs ++ ys))
     whole v w h = subst (Appends v w) (sym (bytes_of-append xs ys)) h
 
-    front : (v w : Option (List ℕ)) → AppendsFront v w (bytes_of xs ++ bytes_of ys) → AppendsFront v w (bytes_of (xs ++ ys))
+    front : (v w : Option (List ℕ)) → AppendsFront v w (bytes_of xs ++ bytes_of ys)
+        → AppendsFront v w (bytes_of (xs ++ ys))
     front v w h = subst (AppendsFront v w) (sym (bytes_of-append xs ys)) h
 
-    go : (u v w : Option (List ℕ)) (f g h k m n : ℕ) (o r s : Result (Unit {0}) SinkFault) → Grows (at u f k o) (at v g m r) xs → Grows (at v g m r) (at w h n s) ys → Grows (at u f k o) (at w h n s) (xs ++ ys)
-    go u v w f g h k m n (Err e) r s p q = record { all = tt; still = (subst (λ t. Grows t (at w h n s) ys) p.still q).still }
+    go : (u v w : Option (List ℕ)) (f g h k m n : ℕ) (o r s : Result (Unit {0}) SinkFault)
+        → Grows (at u f k o) (at v g m r) xs → Grows (at v g m r) (at w h n s) ys
+        → Grows (at u f k o) (at w h n s) (xs ++ ys)
+    go u v w f g h k m n (Err e) r s p q = record {
+      all = tt;
+      still = (subst (λ t. Grows t
+          (at w h n s) ys) p.still q).still;
+    }
     go u v w f g h k m n (Ok i) (Err e) s p q =
         let ended : Wrote (at u f k (Ok i)) (at v g m (Err e)) (xs ++ ys) = record {
-          bytes = record { all = tt; front = front u v (AppendsFront-of_more u v (bytes_of xs) (bytes_of ys) p.all.bytes.front) };
+          bytes = record {
+            all = tt;
+            front = front u v (AppendsFront-of_more u v (bytes_of xs)
+                (bytes_of ys) p.all.bytes.front);
+          };
           cause = p.all.cause;
           writes = tt;
         } in
@@ -60,8 +77,17 @@ grows-then a b d xs ys p q = go a.written b.written d.written a.faults b.faults 
     go u v w f g h k m n (Ok i) (Ok j) (Err e) p q =
         record {
           all = record {
-            bytes = record { all = tt; front = front u w (AppendsFront-then u v w (bytes_of xs) (bytes_of ys) p.all.bytes.all q.all.bytes.front) };
-            cause = record { later = omega (arith, p.all.cause.later, q.all.cause.later); failed = subst (λ t. Rose t h) p.all.cause.kept q.all.cause.failed; kept = tt };
+            bytes = record {
+              all = tt;
+              front = front u w (AppendsFront-then u v w (bytes_of xs)
+                  (bytes_of ys) p.all.bytes.all q.all.bytes.front);
+            };
+            cause = record {
+              later = omega (arith, p.all.cause.later, q.all.cause.later);
+              failed = subst
+                  (λ t. Rose t h) p.all.cause.kept q.all.cause.failed;
+              kept = tt;
+            };
             writes = tt;
           };
           still = tt;
@@ -69,8 +95,16 @@ grows-then a b d xs ys p q = go a.written b.written d.written a.faults b.faults 
     go u v w f g h k m n (Ok i) (Ok j) (Ok l) p q =
         record {
           all = record {
-            bytes = record { all = whole u w (Appends-trans u v w (bytes_of xs) (bytes_of ys) p.all.bytes.all q.all.bytes.all); front = tt };
-            cause = record { later = omega (arith, p.all.cause.later, q.all.cause.later); failed = tt; kept = q.all.cause.kept ∙ p.all.cause.kept };
+            bytes = record {
+              all = whole u w (Appends-trans u v w (bytes_of xs)
+                  (bytes_of ys) p.all.bytes.all q.all.bytes.all);
+              front = tt;
+            };
+            cause = record {
+              later = omega (arith, p.all.cause.later, q.all.cause.later);
+              failed = tt;
+              kept = q.all.cause.kept ∙ p.all.cause.kept;
+            };
             writes = q.all.writes ∙ ap (λ t. many t (length ys)) p.all.writes ∙ many-more k xs ys;
           };
           still = tt;

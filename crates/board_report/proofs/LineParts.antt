@@ -16,7 +16,8 @@ field-put old name value = simp append_assoc
 pub ruleset fields = (field-put)
 
 -- one more word in a value
-pub field-more : (old name value more : List ℕ) → ((old ++ field name value) ++ 32 ∷ []) ++ more ≡ old ++ field name (value ++ 32 ∷ more)
+pub field-more : (old name value more : List ℕ) → ((old ++ field name value) ++ 32 ∷ []) ++ more ≡ old ++ field name
+    (value ++ 32 ∷ more)
 unfolding field
 field-more old name value more = simp append_assoc
 
@@ -32,16 +33,20 @@ spp-put true = refl
 spp-put false = refl
 
 pub context-put : (old : List ℕ) (r : Regs) →
-    (((((((old ++ field (codes "pc") (hexadecimal r.pc)) ++ field (codes "priv") (privilege_text r.privilege)) ++ field (codes "sie") (bit_text r.sie))
-    ++ field (codes "sepc") (hexadecimal r.sepc)) ++ field (codes "spp") (bit_text r.spp)) ++ field (codes "spie") (bit_text r.spie))
-    ++ field (codes "a6") (hexadecimal r.a6)) ++ field (codes "a7") (hexadecimal r.a7) ≡ old ++ context_text (live_of r) (triple_in r)
+    (((((((old ++ field (codes "pc") (hexadecimal r.pc)) ++ field (codes "priv") (privilege_text r.privilege))
+    ++ field (codes "sie") (bit_text r.sie))
+    ++ field (codes "sepc") (hexadecimal r.sepc)) ++ field (codes "spp") (bit_text r.spp)) ++ field (codes "spie")
+    (bit_text r.spie))
+    ++ field (codes "a6") (hexadecimal r.a6)) ++ field (codes "a7") (hexadecimal r.a7) ≡ old ++ context_text
+    (live_of r) (triple_in r)
 unfolding context_text
 context-put old r = rw (spp-put r.spp) (simp append_assoc)
 
 pub ruleset contexts = (context-put)
 
 pub counts-put : (old : List ℕ) (c : Counts) →
-    ((old ++ field (codes "calls") (decimal c.calls)) ++ field (codes "failed") (decimal c.failed)) ++ field (codes "last") (signed_decimal c.last) ≡ old ++ counts_text c
+    ((old ++ field (codes "calls") (decimal c.calls)) ++ field (codes "failed") (decimal c.failed)) ++ field
+    (codes "last") (signed_decimal c.last) ≡ old ++ counts_text c
 unfolding counts_text
 counts-put old c = simp append_assoc
 

@@ -12,7 +12,8 @@ spp-again User = refl
 spp-again Supervisor = refl
 
 -- the registers are what is live, and the triple below
-pub context-regs : (r : Regs) (s : Stack) → r ≡ regs_of s → context_text (live_of r) (triple_in r) ≡ context_text s.live (top_triple s)
+pub context-regs : (r : Regs) (s : Stack) → r ≡ regs_of s → context_text (live_of r)
+    (triple_in r) ≡ context_text s.live (top_triple s)
 context-regs r s e = rw (e, spp-again (top_triple s).spp)
 
 pub ruleset hart = (context-regs)

@@ -26,15 +26,18 @@ grows-same a b xs ys e p = subst (Grows a b) e p
 
 -- ---- Handlers ----
 
-told-append : (h n : ℕ) (xs : List (Instance × Saved)) (x : Instance × Saved) → told_lines h n (xs ++ x ∷ []) ≡ told_lines h n xs ++ told_line h (n + length xs) x.0 x.1 ∷ []
+told-append : (h n : ℕ) (xs : List (Instance × Saved)) (x : Instance × Saved)
+    → told_lines h n (xs ++ x ∷ []) ≡ told_lines h n xs ++ told_line h (n + length xs) x.0 x.1 ∷ []
 told-append h n [] x = ap (λ k. told_line h k x.0 x.1 ∷ []) (omega arith)
-told-append h n (y ∷ xs) x = ap (λ ls. told_line h n y.0 y.1 ∷ ls) (told-append h (n + 1) xs x ∙ ap (λ k. told_lines h (n + 1) xs ++ told_line h k x.0 x.1 ∷ []) (omega arith))
+told-append h n (y ∷ xs) x = ap (λ ls. told_line h n y.0 y.1 ∷ ls) (told-append h (n + 1) xs x
+    ∙ ap (λ k. told_lines h (n + 1) xs ++ told_line h k x.0 x.1 ∷ []) (omega arith))
 
 length-running : (fs : List Frame) (base : Triple) → length (running_in fs base) ≡ length fs
 length-running [] base = refl
 length-running (f ∷ fs) base = simp length-append (omega (arith, length-running fs base))
 
-one_frame : (h n : ℕ) (f : Frame) (t : Triple) → told_line h n (told_by f t).0 (told_by f t).1 ≡ frame_line h n f.at f.saved t
+one_frame : (h n : ℕ) (f : Frame) (t : Triple) → told_line h n (told_by f t).0
+    (told_by f t).1 ≡ frame_line h n f.at f.saved t
 unfolding told_line frame_line
 one_frame h n f t = refl
 
@@ -43,12 +46,15 @@ told-frames : (h : ℕ) (fs : List Frame) (base : Triple) → told_lines h 1 (ru
 told-frames h [] base = refl
 told-frames h (f ∷ fs) base =
     told-append h 1 (running_in fs base) (told_by f (below fs base))
-    ∙ ap (λ ls. ls ++ told_line h (1 + length (running_in fs base)) f.at (told_by f (below fs base)).1 ∷ []) (told-frames h fs base)
-    ∙ ap (λ n. frame_lines h fs base ++ told_line h n f.at (told_by f (below fs base)).1 ∷ []) (omega (arith, length-running fs base))
+    ∙ ap (λ ls. ls ++ told_line h (1 + length (running_in fs base)) f.at (told_by f (below fs base)).1 ∷ [])
+    (told-frames h fs base)
+    ∙ ap (λ n. frame_lines h fs base ++ told_line h n f.at (told_by f (below fs base)).1 ∷ []) (omega
+    (arith, length-running fs base))
     ∙ ap (λ l. frame_lines h fs base ++ l ∷ []) (one_frame h (length (f ∷ fs)) f (below fs base))
 
 -- one handler more
-pub told-next : (h n k m : ℕ) (ts : List (Instance × Saved)) (t : Instance × Saved) → m ≡ n + k → slice_get ts k ≡ Some t
+pub told-next : (h n k m : ℕ) (ts : List (Instance × Saved)) (t : Instance × Saved) → m ≡ n + k
+    → slice_get ts k ≡ Some t
     → told_lines h n (take (k + 1) ts) ≡ told_lines h n (take k ts) ++ told_line h m t.0 t.1 ∷ []
 told-next h n k m [] t i e = cc
 told-next h n zero m (x ∷ ts) t i e =
@@ -60,16 +66,20 @@ told-next h n (suc k) m (x ∷ ts) t i e =
     rw next (ap (λ ls. told_line h n x.0 x.1 ∷ ls) (told-next h (n + 1) k m ts t (omega (arith, i)) e))
 
 -- all of them
-pub told-all : (h k : ℕ) (fs : List Frame) (base : Triple) → length fs ≤ k → told_lines h 1 (take k (running_in fs base)) ≡ frame_lines h fs base
-told-all h k fs base e = ap (told_lines h 1) (take_all k (running_in fs base) (omega (arith, length-running fs base))) ∙ told-frames h fs base
+pub told-all : (h k : ℕ) (fs : List Frame) (base : Triple) → length fs ≤ k
+    → told_lines h 1 (take k (running_in fs base)) ≡ frame_lines h fs base
+told-all h k fs base e = ap (told_lines h 1) (take_all k (running_in fs base) (omega
+    (arith, length-running fs base))) ∙ told-frames h fs base
 
 -- ---- Events ----
 
 -- one instance more
-pub events-next : (i : ℕ) (ss : List Slot) (s : Slot) → slice_get ss i ≡ Some s → map event_line (take (i + 1) ss) ≡ map event_line (take i ss) ++ event_line s ∷ []
+pub events-next : (i : ℕ) (ss : List Slot) (s : Slot) → slice_get ss i ≡ Some s
+    → map event_line (take (i + 1) ss) ≡ map event_line (take i ss) ++ event_line s ∷ []
 events-next i [] s e = cc
 events-next zero (x ∷ ss) s e = let same : x ≡ s = cc in ap (λ (y : Slot). event_line y ∷ []) same
-events-next (suc i) (x ∷ ss) s e = let next : suc i + 1 ≡ suc (i + 1) = omega arith in rw next (ap (λ ls. event_line x ∷ ls) (events-next i ss s e))
+events-next (suc i) (x ∷ ss) s e = let next : suc i + 1 ≡ suc (i + 1) = omega arith in rw next (ap
+    (λ ls. event_line x ∷ ls) (events-next i ss s e))
 
 -- ---- Records ----
 
@@ -94,14 +104,18 @@ records-all b k cs e = ap (told_records b 0) (take_all k cs e)
 pub words-next : (addr i w : ℕ) (ws : List ℕ) → i < length ws → get_or ws i 0 ≡ w
     → word_lines addr (take (i + 1) ws) ≡ word_lines addr (take i ws) ++ word_lines (addr + 8 * i) (w ∷ [])
 words-next addr i w [] h e = absurd (omega (arith, h))
-words-next addr zero w (x ∷ ws) h e = ap (λ (v : ℕ). word_lines addr (v ∷ [])) e ∙ ap (λ (a : ℕ). word_lines a (w ∷ [])) (omega arith)
+words-next addr zero w (x ∷ ws) h e = ap (λ (v : ℕ). word_lines addr (v ∷ [])) e
+    ∙ ap (λ (a : ℕ). word_lines a (w ∷ [])) (omega arith)
 words-next addr (suc i) w (x ∷ ws) h e =
     let next : suc i + 1 ≡ suc (i + 1) = omega arith in
     let further : addr + 8 + 8 * i ≡ addr + 8 * suc i = omega arith in
-    rw next (passed (x == 0) (word_line addr x) (word_lines (addr + 8) (take (i + 1) ws)) (word_lines (addr + 8) (take i ws)) (word_lines (addr + 8 * suc i) (w ∷ []))
-    (words-next (addr + 8) i w ws (omega (arith, h)) e ∙ ap (λ (a : ℕ). word_lines (addr + 8) (take i ws) ++ word_lines a (w ∷ [])) further))
+    rw next (passed (x == 0) (word_line addr x) (word_lines (addr + 8) (take (i + 1) ws)) (word_lines (addr + 8)
+    (take i ws)) (word_lines (addr + 8 * suc i) (w ∷ []))
+    (words-next (addr + 8) i w ws (omega (arith, h)) e ∙ ap (λ (a : ℕ). word_lines (addr + 8) (take i ws)
+    ++ word_lines a (w ∷ [])) further))
   where
-    passed : (b : Bool) (l : List ℕ) (xs ys zs : List (List ℕ)) → xs ≡ ys ++ zs → cond b xs (l ∷ xs) ≡ cond b ys (l ∷ ys) ++ zs
+    passed : (b : Bool) (l : List ℕ) (xs ys zs : List (List ℕ)) → xs ≡ ys ++ zs
+        → cond b xs (l ∷ xs) ≡ cond b ys (l ∷ ys) ++ zs
     passed true l xs ys zs e = e
     passed false l xs ys zs e = ap (λ ls. l ∷ ls) e
 
@@ -110,25 +124,29 @@ words-all addr k ws e = ap (word_lines addr) (take_all k ws e)
 
 -- ---- Numbered lines ----
 
-range-next : (f : ℕ → List ℕ) (at k : ℕ) → map f (range_with_len at (suc k)) ≡ map f (range_with_len at k) ++ f (at + k) ∷ []
+range-next : (f : ℕ → List ℕ) (at k : ℕ) → map f (range_with_len at (suc k)) ≡ map f (range_with_len at k) ++ f
+    (at + k) ∷ []
 range-next f at zero = ap (λ (i : ℕ). f i ∷ []) (omega arith)
 range-next f at (suc k) =
     let further : at + 1 + k ≡ at + suc k = omega arith in
-    ap (λ ls. f at ∷ ls) (range-next f (at + 1) k ∙ ap (λ (i : ℕ). map f (range_with_len (at + 1) k) ++ f i ∷ []) further)
+    ap (λ ls. f at ∷ ls) (range-next f (at + 1) k ∙ ap (λ (i : ℕ). map f (range_with_len (at + 1) k)
+    ++ f i ∷ []) further)
 
 -- one line more
 pub numbered-next : (f : ℕ → List ℕ) (k : ℕ) → map f (range_with_len 0 (k + 1)) ≡ map f (range_with_len 0 k) ++ f k ∷ []
 numbered-next f k =
     let next : k + 1 ≡ suc k = omega arith in
     let place : 0 + k ≡ k = omega arith in
-    ap (λ (i : ℕ). map f (range_with_len 0 i)) next ∙ range-next f 0 k ∙ ap (λ (i : ℕ). map f (range_with_len 0 k) ++ f i ∷ []) place
+    ap (λ (i : ℕ). map f (range_with_len 0 i)) next ∙ range-next f 0 k
+    ∙ ap (λ (i : ℕ). map f (range_with_len 0 k) ++ f i ∷ []) place
 
 -- ---- Steps ----
 
 -- one step more
 pub steps-next : (n k m : ℕ) (ts : List Step) (ns : List StepNote) (by : Step) (note : StepNote) → m ≡ n + k
     → slice_get ts k ≡ Some by → slice_get ns k ≡ Some note
-    → told_steps n (take (k + 1) ts) (take (k + 1) ns) ≡ told_steps n (take k ts) (take k ns) ++ trace_line m (record { by = by; note = note }) ∷ []
+    → told_steps n (take (k + 1) ts) (take (k + 1) ns) ≡ told_steps n (take k ts) (take k ns) ++ trace_line m
+    (record { by = by; note = note }) ∷ []
 steps-next n k m [] ns by note i e f = cc
 steps-next n k m (t ∷ ts) [] by note i e f = cc
 steps-next n zero m (t ∷ ts) (x ∷ ns) by note i e f =
@@ -140,7 +158,8 @@ steps-next n zero m (t ∷ ts) (x ∷ ns) by note i e f =
     ∙ ap (λ (j : ℕ). trace_line j (record { by = by; note = note }) ∷ []) place
 steps-next n (suc k) m (t ∷ ts) (x ∷ ns) by note i e f =
     let next : suc k + 1 ≡ suc (k + 1) = omega arith in
-    rw next (ap (λ ls. trace_line n (record { by = t; note = x }) ∷ ls) (steps-next (n + 1) k m ts ns by note (omega (arith, i)) e f))
+    rw next (ap (λ ls. trace_line n (record { by = t; note = x }) ∷ ls) (steps-next (n + 1) k m ts ns by note (omega
+    (arith, i)) e f))
 
 pub steps-all : (k : ℕ) (ts : List Step) (ns : List StepNote) → length ts ≤ k → length ns ≡ length ts
     → told_steps 1 (take k ts) (take k ns) ≡ told_steps 1 ts ns
@@ -155,6 +174,7 @@ pub wrote-of : (a b : State) (ls : List (List ℕ)) → a.outcome ≡ Ok tt → 
 wrote-of a b ls e p = go a.written a.faults a.writes a.outcome e p
   where
     go : (w : Option (List ℕ)) (f n : ℕ) (o : Result (Unit {0}) SinkFault) → o ≡ Ok tt
-        → Grows (record { written = w; faults = f; writes = n; outcome = o }) b ls → Wrote (record { written = w; faults = f; writes = n; outcome = o }) b ls
+        → Grows (record { written = w; faults = f; writes = n; outcome = o }) b ls
+        → Wrote (record { written = w; faults = f; writes = n; outcome = o }) b ls
     go w f n (Ok u) e p = p.all
     go w f n (Err x) e p = cc

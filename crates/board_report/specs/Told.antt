@@ -37,7 +37,8 @@ told_phase (Some at) = phase_text at.0 ++ 32 ∷ decimal at.1
 unfoldable pub told_bank : ℕ → BankDecl → Bool → List RecordCopy → Option (Phase × ℕ) → List ℕ
 told_bank bank d asking copies phase =
     codes "bank " ++ decimal bank ++ field (codes "home") (decimal d.home)
-    ++ field (codes "scope") (scope_text d.global) ++ field (codes "asks") (bit_text asking) ++ field (codes "block") (slot_text copies)
+    ++ field (codes "scope") (scope_text d.global) ++ field (codes "asks") (bit_text asking) ++ field (codes "block")
+    (slot_text copies)
     ++ field (codes "drain") (told_phase phase)
 
 -- the records of a bank by their registers, numbered from here

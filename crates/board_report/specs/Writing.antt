@@ -42,7 +42,8 @@ module _ {K : Type 0} where
 
   -- pages with some lines more
   abbrev pub Adds : (K → Option (List ℕ)) → (K → ℕ) → (K → ℕ) → Pages K → Pages K → List (List ℕ) → Type 0
-  Adds written faults writes old new ls = Grows (state_of written faults writes old) (state_of written faults writes new) ls
+  Adds written faults writes old new ls = Grows (state_of written faults writes old)
+      (state_of written faults writes new) ls
 
   -- both go to the same sink
   abbrev pub SamePages : Pages K → Pages K → Type 0

@@ -21,7 +21,8 @@ fn put_short<K: Sink>(pages: &mut Pages<'_, K>, plan: &Plan, steps: u64, fates: 
     ensures bytes { Puts (K.written (sink_of pages.old.line)) (K.written (sink_of pages.new.line)) pages.new.outcome
         (bytes_of (head_line plan.now steps ∷ fates_line fates.now ∷ end_line ∷ [])) }
     ensures cause { HasCause (K.faults (sink_of pages.old.line)) (K.faults (sink_of pages.new.line)) pages.new.outcome }
-    ensures writes { OnOk pages.new.outcome (K.writes (sink_of pages.new.line) ≡ many (K.writes (sink_of pages.old.line)) 3) }
+    ensures writes { OnOk pages.new.outcome (K.writes (sink_of pages.new.line) ≡ many (K.writes
+        (sink_of pages.old.line)) 3) }
     ensures same_pages { SamePages pages.new pages.old }
 {
     write_head(pages, plan, steps);
@@ -39,14 +40,15 @@ fn put_trace<K: Sink>(pages: &mut Pages<'_, K>, steps: &[Step], notes: &[StepNot
         (bytes_of (told_steps 1 steps.now notes.now)) }
     ensures cause { HasCause (K.faults (sink_of pages.old.line)) (K.faults (sink_of pages.new.line)) pages.new.outcome }
     ensures writes { OnOk pages.new.outcome
-        (K.writes (sink_of pages.new.line) ≡ many (K.writes (sink_of pages.old.line)) (length (told_steps 1 steps.now notes.now))) }
+        (K.writes (sink_of pages.new.line) ≡ many (K.writes (sink_of pages.old.line)) (length
+        (told_steps 1 steps.now notes.now))) }
     ensures same_pages { SamePages pages.new pages.old }
 {
     write_steps(pages, steps, notes);
 }
 
-/// Writes the short report of a run of so many steps on the board of a plan, whose errors had these fates; each line is one
-/// write. The one fault is the sink's own, of which its count tells; up to there the report was appended.
+/// Writes the short report of a run of so many steps on the board of a plan, whose errors had these fates; each line
+/// is one write. The one fault is the sink's own, of which its count tells; up to there the report was appended.
 pub fn write_short<K: Sink>(
     plan: &Plan,
     steps: u64,
@@ -66,8 +68,8 @@ pub fn write_short<K: Sink>(
     pages.outcome
 }
 
-/// Writes the trace of a run by its steps and their notes, which have texts; each line is one write. The one fault is the
-/// sink's own, of which its count tells; up to there the trace was appended.
+/// Writes the trace of a run by its steps and their notes, which have texts; each line is one write. The one fault is
+/// the sink's own, of which its count tells; up to there the trace was appended.
 pub fn write_trace<K: Sink>(
     steps: &[Step],
     notes: &[StepNote],
@@ -75,9 +77,11 @@ pub fn write_trace<K: Sink>(
 ) -> Result<(), SinkFault>
     requires notes { length notes.now ≡ length steps.now }
     requires texts { HaveTexts notes.now }
-    ensures bytes { Puts (K.written sink.old) (K.written sink.new) result (bytes_of (told_steps 1 steps.now notes.now)) }
+    ensures bytes { Puts (K.written sink.old) (K.written sink.new) result (bytes_of
+        (told_steps 1 steps.now notes.now)) }
     ensures cause { HasCause (K.faults sink.old) (K.faults sink.new) result }
-    ensures writes { OnOk result (K.writes sink.new ≡ many (K.writes sink.old) (length (told_steps 1 steps.now notes.now))) }
+    ensures writes { OnOk result (K.writes sink.new ≡ many (K.writes sink.old) (length
+        (told_steps 1 steps.now notes.now))) }
 {
     let mut pages = Pages {
         line: Line::new(sink),

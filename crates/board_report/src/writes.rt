@@ -56,7 +56,8 @@ pub(crate) fn write_hart<K: Sink>(
     requires empty { text_of pages.old.line ≡ [] }
     requires hart { hart < firmware.now.events.harts }
     ensures empty { text_of pages.new.line ≡ [] }
-    ensures wrote { Adds K.written K.faults K.writes pages.old pages.new (hart_line hart counts.now masked (stack_of hart firmware.now) ∷ []) }
+    ensures wrote { Adds K.written K.faults K.writes pages.old pages.new (hart_line hart counts.now masked
+        (stack_of hart firmware.now) ∷ []) }
     ensures same_pages { SamePages pages.new pages.old }
 {
     if let Err(_) = pages.outcome {
@@ -111,7 +112,8 @@ pub(crate) fn write_bank<K: Sink>(
 )
     requires { text_of pages.old.line ≡ [] }
     ensures empty { text_of pages.new.line ≡ [] }
-    ensures wrote { Adds K.written K.faults K.writes pages.old pages.new (told_bank bank decl.now asking copies.now phase ∷ []) }
+    ensures wrote { Adds K.written K.faults K.writes pages.old pages.new
+        (told_bank bank decl.now asking copies.now phase ∷ []) }
     ensures same_pages { SamePages pages.new pages.old }
 {
     if let Err(_) = pages.outcome {
@@ -220,7 +222,8 @@ pub(crate) fn write_step<K: Sink>(pages: &mut Pages<'_, K>, number: u64, by: Ste
     requires empty { text_of pages.old.line ≡ [] }
     requires has_text { IsTrue (has_text note.now) }
     ensures empty { text_of pages.new.line ≡ [] }
-    ensures wrote { Adds K.written K.faults K.writes pages.old pages.new (trace_line number (record { by = by; note = note.now }) ∷ []) }
+    ensures wrote { Adds K.written K.faults K.writes pages.old pages.new (trace_line number
+        (record { by = by; note = note.now }) ∷ []) }
     ensures same_pages { SamePages pages.new pages.old }
 {
     if let Err(_) = pages.outcome {

@@ -16,6 +16,7 @@ loop-k-preserved g c =
     record {
       empty = c.write_block.ensures.empty;
       wrote = grows-more _ _ _ _ _ _ (numbered-next f c.loop-k.k) c.loop-k.invariant.wrote
-          (grows-same _ _ _ _ (ap (λ (bs : List ℕ). block_line c.args.bank bs ∷ []) (c.bytes_of_entry.ensures.bytes ∙ ap (λ (bs : List ℕ). bytes_of_entry bs c.loop-k.k) spelled)) c.write_block.ensures.wrote);
+          (grows-same _ _ _ _ (ap (λ (bs : List ℕ). block_line c.args.bank bs ∷ []) (c.bytes_of_entry.ensures.bytes
+          ∙ ap (λ (bs : List ℕ). bytes_of_entry bs c.loop-k.k) spelled)) c.write_block.ensures.wrote);
       same_pages = c.write_block.ensures.same_pages ∙ c.loop-k.invariant.same_pages;
     }

@@ -14,10 +14,12 @@ pub loop-i-preserved : goal.loop-i-preserved
 loop-i-preserved g c =
     record {
       empty = c.write_event.ensures.empty;
-      wrote = grows-more _ _ _ _ _ _ (events-next c.loop-i.i (slots c.args.table.now) c.slot.result c.slot.ensures) c.loop-i.invariant.wrote c.write_event.ensures.wrote;
+      wrote = grows-more _ _ _ _ _ _ (events-next c.loop-i.i
+          (slots c.args.table.now) c.slot.result c.slot.ensures) c.loop-i.invariant.wrote c.write_event.ensures.wrote;
       same_pages = c.write_event.ensures.same_pages ∙ c.loop-i.invariant.same_pages;
     }
 
 pub returns-clause-wrote : goal.returns-clause-wrote
 returns-clause-wrote g c =
-    grows-same _ _ _ _ (ap (map event_line) (take_all c.loop-i.i (slots c.args.table.now) (omega (arith, c.instances-i-end.ensures.slots)))) c.loop-i.invariant.wrote
+    grows-same _ _ _ _ (ap (map event_line) (take_all c.loop-i.i (slots c.args.table.now) (omega
+    (arith, c.instances-i-end.ensures.slots)))) c.loop-i.invariant.wrote

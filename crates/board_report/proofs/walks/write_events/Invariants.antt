@@ -9,6 +9,7 @@ use Rattle.board_report.proofs.walks.write_events.Given as goal
 abbrev pub invariant-loop-i : goal.invariant-loop-i
 invariant-loop-i g l = record {
   empty : text_of l.pages.line ≡ [];
-  wrote : Adds g.K.Sink.written g.K.Sink.faults g.K.Sink.writes l.fn.pages l.pages (map event_line (take l.i (slots l.table)));
+  wrote : Adds g.K.Sink.written g.K.Sink.faults g.K.Sink.writes l.fn.pages l.pages (map event_line (take l.i
+      (slots l.table)));
   same_pages : SamePages l.pages l.fn.pages;
 }

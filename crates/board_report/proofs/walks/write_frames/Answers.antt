@@ -14,11 +14,14 @@ loop-k-preserved g c =
     let s = stack_of c.args.hart c.args.firmware.now in
     record {
       empty = c.write_frame.ensures.empty;
-      wrote = grows-more _ _ _ _ _ _ (told-next c.args.hart 1 c.loop-k.k (c.loop-k.k + 1) (running_in s.frames s.base) c.running-at.result (omega arith) c.running-at.ensures) c.loop-k.invariant.wrote c.write_frame.ensures.wrote;
+      wrote = grows-more _ _ _ _ _ _ (told-next c.args.hart 1 c.loop-k.k (c.loop-k.k + 1)
+          (running_in s.frames s.base) c.running-at.result
+          (omega arith) c.running-at.ensures) c.loop-k.invariant.wrote c.write_frame.ensures.wrote;
       same_pages = c.write_frame.ensures.same_pages ∙ c.loop-k.invariant.same_pages;
     }
 
 pub returns-clause-wrote : goal.returns-clause-wrote
 returns-clause-wrote g c =
     let s = stack_of c.args.hart c.args.firmware.now in
-    grows-same _ _ _ _ (told-all c.args.hart c.loop-k.k s.frames s.base (omega (arith, c.depth-k-end.ensures.depth))) c.loop-k.invariant.wrote
+    grows-same _ _ _ _ (told-all c.args.hart c.loop-k.k s.frames s.base (omega
+    (arith, c.depth-k-end.ensures.depth))) c.loop-k.invariant.wrote

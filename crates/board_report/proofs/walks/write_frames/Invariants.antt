@@ -10,6 +10,7 @@ use Rattle.board_report.proofs.walks.write_frames.Given as goal
 abbrev pub invariant-loop-k : goal.invariant-loop-k
 invariant-loop-k g l = record {
   empty : text_of l.pages.line ≡ [];
-  wrote : Adds g.K.Sink.written g.K.Sink.faults g.K.Sink.writes l.fn.pages l.pages (told_lines l.hart 1 (take l.k (running_in (stack_of l.hart l.firmware).frames (stack_of l.hart l.firmware).base)));
+  wrote : Adds g.K.Sink.written g.K.Sink.faults g.K.Sink.writes l.fn.pages l.pages (told_lines l.hart 1 (take l.k
+      (running_in (stack_of l.hart l.firmware).frames (stack_of l.hart l.firmware).base)));
   same_pages : SamePages l.pages l.fn.pages;
 }

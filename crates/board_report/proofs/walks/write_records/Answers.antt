@@ -11,10 +11,13 @@ pub loop-rec-preserved : goal.loop-rec-preserved
 loop-rec-preserved g c =
     record {
       empty = c.write_registers.ensures.empty;
-      wrote = grows-more _ _ _ _ _ _ (records-next c.args.number 0 c.loop-rec.rec c.loop-rec.rec c.args.bank.now.copies c.copy_of.result (omega arith) c.copy_of.ensures.value) c.loop-rec.invariant.wrote c.write_registers.ensures.wrote;
+      wrote = grows-more _ _ _ _ _ _
+          (records-next c.args.number 0 c.loop-rec.rec c.loop-rec.rec c.args.bank.now.copies c.copy_of.result
+          (omega arith) c.copy_of.ensures.value) c.loop-rec.invariant.wrote c.write_registers.ensures.wrote;
       same_pages = c.write_registers.ensures.same_pages ∙ c.loop-rec.invariant.same_pages;
     }
 
 pub returns-clause-wrote : goal.returns-clause-wrote
 returns-clause-wrote g c =
-    grows-same _ _ _ _ (records-all c.args.number c.loop-rec.rec c.args.bank.now.copies (omega (arith, c.requires.count))) c.loop-rec.invariant.wrote
+    grows-same _ _ _ _ (records-all c.args.number c.loop-rec.rec c.args.bank.now.copies (omega
+    (arith, c.requires.count))) c.loop-rec.invariant.wrote

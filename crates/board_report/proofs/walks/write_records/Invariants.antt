@@ -8,6 +8,7 @@ use Rattle.board_report.proofs.walks.write_records.Given as goal
 abbrev pub invariant-loop-rec : goal.invariant-loop-rec
 invariant-loop-rec g l = record {
   empty : text_of l.pages.line ≡ [];
-  wrote : Adds g.K.Sink.written g.K.Sink.faults g.K.Sink.writes l.fn.pages l.pages (told_records l.number 0 (take l.rec l.bank.copies));
+  wrote : Adds g.K.Sink.written g.K.Sink.faults g.K.Sink.writes l.fn.pages l.pages (told_records l.number 0
+      (take l.rec l.bank.copies));
   same_pages : SamePages l.pages l.fn.pages;
 }

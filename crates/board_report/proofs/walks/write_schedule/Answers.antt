@@ -15,6 +15,7 @@ loop-k-preserved g c =
     record {
       empty = c.write_entries.ensures.empty;
       wrote = grows-more _ _ _ _ _ _ (numbered-next f c.loop-k.k) c.loop-k.invariant.wrote
-          (grows-same _ _ _ _ (ap (λ (es : List _). schedule_line es ∷ []) c.entries_of.ensures.entries) c.write_entries.ensures.wrote);
+          (grows-same _ _ _ _ (ap (λ
+          (es : List _). schedule_line es ∷ []) c.entries_of.ensures.entries) c.write_entries.ensures.wrote);
       same_pages = c.write_entries.ensures.same_pages ∙ c.loop-k.invariant.same_pages;
     }

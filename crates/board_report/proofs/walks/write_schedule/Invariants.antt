@@ -9,6 +9,7 @@ use Rattle.board_report.proofs.walks.write_schedule.Given as goal
 abbrev pub invariant-loop-k : goal.invariant-loop-k
 invariant-loop-k g l = record {
   empty : text_of l.pages.line ≡ [];
-  wrote : Adds g.K.Sink.written g.K.Sink.faults g.K.Sink.writes l.fn.pages l.pages (map (λ k. schedule_line (entries_of_line l.steps k)) (range_with_len 0 l.k));
+  wrote : Adds g.K.Sink.written g.K.Sink.faults g.K.Sink.writes l.fn.pages l.pages (map (λ k. schedule_line
+      (entries_of_line l.steps k)) (range_with_len 0 l.k));
   same_pages : SamePages l.pages l.fn.pages;
 }

@@ -11,7 +11,9 @@ pub loop-i-preserved : goal.loop-i-preserved
 loop-i-preserved g c =
     record {
       empty = c.write_word.ensures.empty;
-      wrote = grows-more _ _ _ _ _ _ (words-next 0x80000000 c.loop-i.i (get_or c.args.words.now c.loop-i.i 0) c.args.words.now (omega arith) refl) c.loop-i.invariant.wrote c.write_word.ensures.wrote;
+      wrote = grows-more _ _ _ _ _ _ (words-next 0x80000000 c.loop-i.i
+          (get_or c.args.words.now c.loop-i.i 0) c.args.words.now
+          (omega arith) refl) c.loop-i.invariant.wrote c.write_word.ensures.wrote;
       same_pages = c.write_word.ensures.same_pages ∙ c.loop-i.invariant.same_pages;
     }
 

@@ -8,6 +8,7 @@ use Rattle.board_report.proofs.walks.write_words.Given as goal
 abbrev pub invariant-loop-i : goal.invariant-loop-i
 invariant-loop-i g l = record {
   empty : text_of l.pages.line ≡ [];
-  wrote : Adds g.K.Sink.written g.K.Sink.faults g.K.Sink.writes l.fn.pages l.pages (word_lines 0x80000000 (take l.i l.words));
+  wrote : Adds g.K.Sink.written g.K.Sink.faults g.K.Sink.writes l.fn.pages l.pages (word_lines 0x80000000
+      (take l.i l.words));
   same_pages : SamePages l.pages l.fn.pages;
 }
