@@ -1,8 +1,8 @@
 -- What some lines more leave of pages on their way to a sink.
-use Rattle.std.proofs.Common.{◌≡◌, ℕ, zero, suc, ◌+◌, ◌≤◌, List, [], ◌∷◌, ◌++◌, length, Ok, Err, Result, Option, refl, sym, ap, ◌∙◌, append_assoc, append-nil, length-append, subst, arith}
+use Rattle.std.proofs.Common.{◌≡◌, ℕ, suc, List, [], ◌∷◌, ◌++◌, length, Ok, Err, Result, Option, refl, sym, ap, ◌∙◌, append_assoc, append-nil, length-append, subst, arith}
 use Rattle.std.specs.Io.KnownBytes.{Appends}
 use Rattle.std.proofs.KnownBytes.{Appends-trans, Appends-nil}
-use Rattle.ras_io.specs.Causes.{HasCause, Puts, AppendsFront, Rose, one_more}
+use Rattle.ras_io.specs.Causes.{AppendsFront, Rose, one_more}
 use Rattle.ras_io.proofs.Puts.{AppendsFront-then, AppendsFront-of_more}
 use Rattle.ras_io.specs.declared.faults.SinkFault.{SinkFault}
 use Rattle.board_plan.specs.Text.{bytes_of}
@@ -46,7 +46,9 @@ grows-nil a = go a.written a.faults a.writes a.outcome
 
 -- some lines more, and then others
 pub grows-then : (a b d : State) (xs ys : List (List ℕ)) → Grows a b xs → Grows b d ys → Grows a d (xs ++ ys)
-grows-then a b d xs ys p q = go a.written b.written d.written a.faults b.faults d.faults a.writes b.writes d.writes a.outcome b.outcome d.outcome p q
+grows-then a b d xs ys p q =
+    go a.written b.written d.written a.faults b.faults d.faults a.writes b.writes d.writes a.outcome b.outcome d.outcome
+    p q
   where
     whole : (v w : Option (List ℕ)) → Appends v w (bytes_of xs ++ bytes_of ys) → Appends v w (bytes_of (xs ++ ys))
     whole v w h = subst (Appends v w) (sym (bytes_of-append xs ys)) h

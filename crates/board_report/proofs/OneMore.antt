@@ -1,9 +1,9 @@
 -- The lines of a report, one after another: each walk over a list with one more of its items.
-use Rattle.std.proofs.Common.{◌≡◌, ℕ, zero, suc, ◌+◌, ◌-◌, ◌≤◌, get_or, ◌*◌, ◌<◌, ◌==◌, Bool, true, false, cond, List, [], ◌∷◌, ◌++◌, map, length, take, drop, Some, Ok, Err, Result, Option, refl, sym, ap, ◌∙◌, subst, append_assoc, append-nil, length-append, arith, slice_get, slice_index_or}
+use Rattle.std.proofs.Common.{◌≡◌, ℕ, zero, suc, ◌+◌, ◌≤◌, get_or, ◌*◌, ◌<◌, ◌==◌, Bool, true, false, cond, List, [], ◌∷◌, ◌++◌, map, length, take, Some, Ok, Err, Result, Option, refl, sym, ap, ◌∙◌, subst, length-append, arith, slice_get}
 use Rattle.std.proofs.lemmas.List.{take_all}
 use Rattle.std.specs.List.{range_with_len}
 use Rattle.sse_base.specs.declared.ids.Instance.{Instance}
-use Rattle.sse_base.specs.Contexts.{Frame, Triple, Stack, below}
+use Rattle.sse_base.specs.Contexts.{Frame, Triple, below}
 use Rattle.hart_ctx.specs.declared.regs.Saved.{Saved}
 use Rattle.hart_ctx.specs.Running.{told_by, running_in}
 use Rattle.sse_base.specs.declared.events.Slot.{Slot}

@@ -1,7 +1,6 @@
--- The lines of a report by what is told of a board, and not by the states that it stands for. No public clause cites
--- this.
-use Rattle.std.specs.Prelude.{◌≡◌, ℕ, ◌+◌, Bool, true, false, List, [], ◌∷◌, ◌++◌, map, length, slice_get, IsTrue, Option, Some, None, codes, decimal}
-use Rattle.std.specs.List.{range_with_len}
+-- The lines of a report by what is told of a board, and not by the states that it stands for. This project's own, over
+-- the texts of the board book; public clauses cite the steps of a trace alone, at the end.
+use Rattle.std.specs.Prelude.{◌≡◌, ℕ, ◌+◌, Bool, List, [], ◌∷◌, ◌++◌, slice_get, IsTrue, Option, Some, None, codes, decimal}
 use Rattle.ras_text.specs.Numbers.{hexadecimal}
 use Rattle.sse_base.specs.declared.ids.Instance.{Instance}
 use Rattle.sse_base.specs.Ids.{id_of}
@@ -9,12 +8,11 @@ use Rattle.hart_ctx.specs.declared.regs.Saved.{Saved}
 use Rattle.reri_fields.specs.declared.report.RecordCopy.{RecordCopy}
 use Rattle.reri_fields.specs.declared.drain.Phase.{Phase}
 use Rattle.reri_fields.specs.Banks.{BankView}
-use Rattle.reri_fields.specs.Drain.{Draining}
 use Rattle.board_plan.specs.declared.notes.Step.{Step}
 use Rattle.board_plan.specs.declared.notes.StepNote.{StepNote}
 use Rattle.board_plan.specs.declared.plan.BankDecl.{BankDecl}
 use Rattle.board_plan.specs.Notes.{has_text}
-use Rattle.board_plan.specs.Text.{field, bit_text, scope_text, slot_text, phase_text, drain_text, record_line, block_lines, trace_line}
+use Rattle.board_plan.specs.Text.{field, bit_text, scope_text, slot_text, phase_text, record_line, block_lines, trace_line}
 
 -- a handler that runs, by its INTERRUPTED attributes
 unfoldable pub told_line : ℕ → ℕ → Instance → Saved → List ℕ

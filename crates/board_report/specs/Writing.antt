@@ -1,4 +1,5 @@
--- Lines on their way to a sink, of which a write may fail. This project's own; no public clause cites it.
+-- Lines on their way to a sink, of which a write may fail. This project's own; public clauses cite the count of writes
+-- alone.
 use Rattle.std.specs.Prelude.{◌≡◌, ℕ, zero, suc, List, length, OnOk, OnErr, Option, Result}
 use Rattle.ras_io.specs.Causes.{HasCause, Puts, one_more}
 use Rattle.ras_io.specs.declared.faults.SinkFault.{SinkFault}

@@ -1,6 +1,5 @@
 -- One line of a schedule more, and all of them.
-use Rattle.std.proofs.Common.{ℕ, List, [], ◌∷◌, ◌++◌, map, refl, ap, ◌∙◌, arith}
-use Rattle.std.specs.List.{range_with_len}
+use Rattle.std.proofs.Common.{ℕ, List, [], ◌∷◌, refl, ap, ◌∙◌}
 use Rattle.board_plan.specs.Text.{schedule_line, entries_of_line}
 use Rattle.board_report.proofs.Growing.{grows-nil}
 use Rattle.board_report.proofs.OneMore.{grows-more, grows-same, numbered-next}

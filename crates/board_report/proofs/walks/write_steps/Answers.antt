@@ -1,5 +1,5 @@
 -- One step more.
-use Rattle.std.proofs.Common.{◌+◌, refl, ◌∙◌, arith}
+use Rattle.std.proofs.Common.{◌+◌, ◌∙◌, arith}
 use Rattle.std.proofs.lemmas.Option.{slice_get-get_or}
 use Rattle.board_report.proofs.OneMore.{grows-more, steps-next}
 use Rattle.board_report.proofs.walks.write_steps.Goals as goal
