@@ -34,11 +34,11 @@ is_by h (Reporter r) = false
 abbrev pub own_notes : ℕ → List Noted → List StepNote
 own_notes h ns = map (λ n. n.note) (filter (λ n. is_by h n.by) ns)
 
--- an accepted complete
 abbrev pub is_done : Option Function → Bool
 is_done (Some functions.Complete) = true
 is_done f = false
 
+-- an accepted complete
 abbrev pub is_complete : StepNote → Bool
 is_complete (note.Call eid fid args code written) = (eid == extension) && is_done (function_of fid) && is_success code
 is_complete n = false

@@ -2,9 +2,9 @@
 -- harts, reporters, levels, priorities and error codes are decimal, and so is the signed code of a call's answer.
 -- All other numbers are hexadecimal.
 use Rattle.std.specs.Prelude.{ℕ, ◌==◌, ◌&&◌, nat_le, Bool, true, false, if◌then◌else◌}
-use Rattle.std.specs.Prelude.{List, [], ◌∷◌, ◌++◌, take, map, slice_index, Option, Some, None, codes, decimal}
+use Rattle.std.specs.Prelude.{List, [], ◌∷◌, ◌++◌, take, drop, map, slice_index, Option, Some, None, codes, decimal}
 use Rattle.std.specs.Fmt.{signed_decimal}
-use Rattle.std.specs.List.{join_with_byte}
+use Rattle.std.specs.List.{list_all, join_with_byte}
 use Rattle.ras_text.specs.Numbers.{hexadecimal}
 use Rattle.sse_base.specs.declared.codes.SbiCode.{SbiCode}
 use Rattle.sse_base.specs.Codes.{number_of, is_success}
@@ -133,7 +133,15 @@ note_words (note.Raise id hart signalled) =
 unfoldable pub note_text : StepNote → List ℕ
 note_text n = join_with_byte 32 (note_words n)
 
--- a Read note that has a text names one of the registers that a drain reads on its own
+-- how many of a call's words its text tells
+abbrev pub told_count : ℕ → ℕ → List ℕ → SbiCode → ℕ
+told_count eid fid args code = if is_accepted_write eid fid args code then slice_index args 2 else 0
+
+-- A text tells all of its note. So a call has no words but those that are told, a Read names one of the registers that
+-- a drain reads on its own, and an actor that had no step has no text.
 abbrev pub has_text : StepNote → Bool
+has_text note.Idle = false
 has_text (note.Read bank rec register) = nat_le 2 register && nat_le register 5
+has_text (note.Call eid fid args code written) =
+    list_all (λ word. word == 0) (drop (told_count eid fid args code) written)
 has_text n = true

@@ -1,6 +1,6 @@
 -- What is safe in a run, at each of its states: nine facts. This project's own, over the event book (SBI 3.0,
 -- "Supervisor Software Events") and the record book (RERI 1.0).
-use Rattle.std.specs.Prelude.{◌≡◌, ℕ, zero, suc, ◌+◌, ◌≤◌, ◌&&◌, max, ◌⊎◌, Bool, true, false, List, [], ◌∷◌, ◌++◌, length, sum_by, count_by, slice_get, Option, Some, None, option_map}
+use Rattle.std.specs.Prelude.{◌≡◌, ℕ, zero, suc, ◌+◌, ◌≤◌, ◌<◌, ◌&&◌, max, ◌⊎◌, Bool, true, false, List, [], ◌∷◌, ◌++◌, length, sum_by, count_by, slice_get, slice_index, if◌then◌else◌, Option, Some, None, option_map}
 use Rattle.sse_base.specs.declared.arrows.State.{State}
 use Rattle.sse_base.specs.declared.arrows.Move.{Move}
 use Rattle.sse_base.specs.declared.arrows.Move.TheVariants as moves
@@ -24,7 +24,7 @@ use Rattle.reri_fields.specs.Drain.{BankState, Draining, Publication, errors_at,
 use Rattle.ras_device.specs.declared.act.Act.{Act}
 use Rattle.board_plan.specs.declared.notes.Published.{Published}
 use Rattle.board_plan.specs.declared.notes.Step.{Step}
-use Rattle.board_plan.specs.declared.notes.Step.TheVariants.{Hart}
+use Rattle.board_plan.specs.declared.notes.Step.TheVariants.{Hart, Reporter}
 use Rattle.board_plan.specs.declared.notes.StepNote.{StepNote}
 use Rattle.board_plan.specs.declared.notes.StepNote.TheVariants as note
 use Rattle.board_plan.specs.declared.plan.BankDecl.{BankDecl}
@@ -32,6 +32,7 @@ use Rattle.board_plan.specs.declared.plan.Plan.{Plan}
 use Rattle.board_plan.specs.State.{BoardState, bank_plan}
 use Rattle.board_plan.specs.Step.{Stepped, step}
 use Rattle.board_plan.specs.Run.{Noted, ran}
+use Rattle.board_plan.specs.Amend.{is_done}
 use Rattle.board_plan.specs.Fates.{Deed, News, has_fate, ExactlyOne, news, errors_made, deeds_of, is_shown, origin_at}
 use Rattle.board_plan.specs.Fates.News.{Checks}
 
@@ -51,21 +52,40 @@ abbrev pub is_delivery : Move → Bool
 is_delivery moves.Deliver = true
 is_delivery mv = false
 
--- the moves that are a step's own
+-- the moves that a note tells of
 abbrev pub makes : StepNote → Move → Bool
 makes (note.Deliver id) mv = is_delivery mv
 makes (note.Call eid fid args code written) mv = is_success code && is_move_of (function_of fid) mv
 makes n mv = false
 
+-- the instance of a hart's newest handler
+abbrev pub newest_of : Option Stack → Option Instance
+newest_of None = None
+newest_of (Some x) = option_map (λ f. f.at) (slice_get x.frames 0)
+
+-- the instance that a hart's step moves: the one that is delivered, the one that a call names, or that of the handler
+-- that is completed
+abbrev pub moved_by : ℕ → StepNote → Machine → Option Instance
+moved_by h (note.Deliver id) m = Some (instance_of id h)
+moved_by h (note.Call eid fid args code written) m =
+    if is_done (function_of fid) then newest_of (slice_get m.stacks h)
+    else Some (instance_of (slice_index args 0) h)
+moved_by h n m = None
+
+abbrev pub moved_in : Step → StepNote → BoardState → Option Instance
+moved_in (Hart h) n s = moved_by h n s.machine
+moved_in (Reporter r) n s = None
+
 abbrev pub state_of : Instance → BoardState → State
 state_of at s = (event at s.machine.events).state
 
--- an event keeps its state in a step, or follows an arrow whose move is the step's own
+-- an event keeps its state in a step, or follows an arrow: the step's own move, of the instance that the step moves
 abbrev pub EachChangeIsAnArrow : Plan → (ℕ → List Act) → BoardState → Type 0
 EachChangeIsAnArrow plan acts s =
     (t : Step) (d : Stepped) (at : Instance) → step plan acts t s ≡ Some d
     → (state_of at d.state ≡ state_of at s)
-    ⊎ ((mv : Move) × (makes d.note mv ≡ true) × (arrow (state_of at s) mv ≡ Some (state_of at d.state)))
+    ⊎ ((mv : Move) × (makes d.note mv ≡ true) × (moved_in t d.note s ≡ Some at)
+    × (arrow (state_of at s) mv ≡ Some (state_of at d.state)))
 
 -- ---- 2: an event runs exactly where it has a frame ----
 
@@ -187,6 +207,12 @@ has_record Scan = false
 has_record Signal = false
 has_record phase = true
 
+-- the phases of a drain that has its next copy still to publish
+abbrev pub comes_to_publish : Phase → Bool
+comes_to_publish Invalidate = false
+comes_to_publish Signal = false
+comes_to_publish phase = true
+
 -- the newest so many of what was published, the oldest of them first
 abbrev pub newest_copies : ℕ → List Publication → List RecordCopy
 newest_copies zero ps = []
@@ -211,6 +237,7 @@ pub record IsDrainSound (origins : List Origin) (gather : ℕ) (x : BankState) (
   pub own : u.count ≤ length x.published
   pub level : u.level ≡ greatest_level (newest_copies u.count x.published)
   pub gathered : u.count ≤ gather
+  pub gathers_on : comes_to_publish u.phase ≡ true → u.count < gather
 
 -- the bank that a drain's note names
 abbrev pub drained_bank : StepNote → Option ℕ

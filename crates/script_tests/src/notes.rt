@@ -1,6 +1,7 @@
 //! The text of notes.
 
-ghost use Rattle.std.specs.Prelude.{IsTrue};
+ghost use Rattle.std.specs.Prelude.{◌≡◌, ◌∷◌, [], IsTrue};
+ghost use Rattle.board_plan.specs.declared.notes.StepNote.TheVariants as note;
 ghost use Rattle.board_plan.specs.Notes.{has_text};
 
 use board_plan::{Reg, StepNote, note_text};
@@ -24,15 +25,15 @@ const ERROR: Report = Report {
 };
 
 // a call of write_attrs for two attributes
-fn write(code: SbiCode) -> StepNote
-    ensures { IsTrue (has_text result) }
+fn write(code: SbiCode, written: [u64; 10]) -> StepNote
+    ensures { result ≡ note.Call 0x535345 1 (0x8000 ∷ 1 ∷ 2 ∷ 0x80000000 ∷ 0 ∷ []) code written }
 {
     StepNote::Call {
         eid: 0x535345,
         fid: 1,
         args: [0x8000, 1, 2, 0x80000000, 0],
         code,
-        written: [5, 255, 0, 0, 0, 0, 0, 0, 0, 0],
+        written,
     }
 }
 
@@ -89,8 +90,14 @@ fn writes_notes_of_ops(rt: HostRuntime) -> Result<(), Fail> {
         value: 1,
     };
     let ack = StepNote::Ack { bank: 9, was: None };
-    assert!(rt; reads(alloc, write(SbiCode::Denied), denied)?);
-    assert!(rt; reads(alloc, write(SbiCode::Success), taken)?);
+    assert!(rt; reads(alloc, write(SbiCode::Denied, [0; 10]), denied)?);
+    assert!(rt;
+        reads(
+            alloc,
+            write(SbiCode::Success, [5, 255, 0, 0, 0, 0, 0, 0, 0, 0]),
+            taken
+        )?
+    );
     assert!(rt; reads(alloc, load, b"load spp 0x1\n")?);
     assert!(rt; reads(alloc, ack, b"ack 9 none\n")?);
     Ok(())
