@@ -1,0 +1,2 @@
+-- A board as what was played on it.
+pub mod Played
