@@ -1,6 +1,6 @@
 -- Worked scripts: a text with every form and its plan, and a text for each kind of refusal. Each is computed from the
 -- definitions of the board book.
-use Rattle.std.specs.Prelude.{◌≡◌, ℕ, true, false, List, [], ◌∷◌, ◌++◌, map, Option, Some, None, Result, Ok, Err, codes}
+use Rattle.std.specs.Prelude.{◌≡◌, ℕ, true, List, [], ◌∷◌, ◌++◌, map, Option, Some, None, Result, Ok, Err, codes}
 use Rattle.std.proofs.Common.{refl}
 use Rattle.sse_base.specs.Ids.{class_of, is_platform}
 use Rattle.reri_fields.specs.declared.severity.Severity.TheVariants.{Uec}
