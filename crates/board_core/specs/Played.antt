@@ -1,4 +1,5 @@
--- A board as what was played on it, and what it has come to by that. This project's own, over the runs of the board book.
+-- A board as what was played on it, and what it has come to by that. This project's own, over the runs of the board
+-- book.
 use Rattle.std.specs.Prelude.{◌≡◌, ◌≤◌, ◌<◌, ℕ, Bool, true, false, List, [], ◌∷◌, ◌++◌, length, take, map, slice_get, slice_set, slice_index_or, Option, Some, None, is_none}
 use Rattle.ras_device.specs.declared.act.Act.{Act}
 use Rattle.ras_device.specs.declared.act.Act.TheVariants as act
