@@ -1,3 +1,4 @@
+-- What the loop of `put_block` keeps.
 use Rattle.std.proofs.Common.{◌≡◌, ◌+◌, ◌*◌, ◌≤◌, ◌++◌, ◌∷◌, codes, decimal, length, take}
 use Rattle.std.specs.List.{flat_map}
 use Rattle.ras_text.specs.Lines.{text_of, sink_of, SameSink}
