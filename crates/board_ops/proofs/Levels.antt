@@ -97,3 +97,6 @@ register_kept Spp value s =
 register_kept Spie value s =
     ap (λ (t : Triple). bit t.spie) (sym (set_below (record (top_triple s) { spie = is_odd value }) s.frames s.base))
 register_kept Sie value s = refl
+
+-- a register that a word is loaded into
+pub ruleset loaded = (register_set, register_kept, stays)

@@ -54,7 +54,7 @@ fn set(firmware: &mut Firmware, hart: u8, reg: Reg, value: u64) -> StepNote
 }
 
 /// A register takes a word of memory.
-#[tactic(auto, using(crate::proofs::Levels::register_set, crate::proofs::Levels::register_kept, crate::proofs::Levels::stays))]
+#[tactic(auto, using(crate::proofs::Levels::loaded))]
 fn load(firmware: &mut Firmware, hart: u8, reg: Reg, addr: u64) -> StepNote
     requires { hart < firmware.old.events.harts }
     ensures { Executes hart firmware.old firmware.new result

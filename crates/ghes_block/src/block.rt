@@ -51,7 +51,7 @@ fn section(copy: &RecordCopy) -> [u8; 48]
 }
 
 /// The Generic Error Data Entry of the copy.
-#[tactic(auto, unfolding(reri_fields::specs::Block::entry, reri_fields::specs::Block::section_type, reri_fields::specs::Block::zeros))]
+#[tactic(auto, unfolding(crate::proofs::Text::entry, crate::proofs::Text::section_type, crate::proofs::Text::zeros))]
 fn entry(copy: &RecordCopy) -> [u8; 120]
     ensures { result ≡ entry copy.now }
 {

@@ -40,7 +40,6 @@ pub(crate) fn are_copies(copies: &[RecordCopy]) -> bool
 }
 
 /// Whether a copy is a corrected error, or an uncorrected one.
-#[tactic(auto, unfolding(crate::specs::Sections::is_of, reri_fields::specs::Block::is_corrected, reri_fields::specs::Block::is_uncorrected, reri_fields::specs::Block::has_worst, reri_fields::specs::Block::is_worst))]
 fn is_of(copy: &RecordCopy, corrected: bool) -> bool
     ensures { result ≡ is_of corrected copy.now }
 {

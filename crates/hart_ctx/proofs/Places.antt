@@ -139,3 +139,6 @@ pub write_nowhere : (base : ℕ) (words : List ℕ) (at : Instance) (r : Regs) (
     → length ks ≤ kept_place at ks →
     stack_of r ks ≡ with_interrupted base words at (stack_of r ks)
 write_nowhere base words at r ks l = ap (over (live_of r)) (sym (writes_none base words at (triple_in r) ks l))
+
+-- words that are written to the handler of an event, where it is kept
+pub ruleset writes = (write_at_place, write_nowhere, kept_at_most)

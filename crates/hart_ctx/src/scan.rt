@@ -47,7 +47,7 @@ pub fn word_of(saved: &Saved, attr: u8) -> u64
 }
 
 /// Writes words to the attributes from `base` on of the handler of this event, where it is kept.
-#[tactic(auto, using(crate::proofs::Places::write_at_place, crate::proofs::Places::write_nowhere, crate::proofs::Places::kept_at_most))]
+#[tactic(auto, using(crate::proofs::Places::writes))]
 pub fn write(kept: &mut [Kept], base: u8, words: &[u64], at: Instance)
     ensures { (r : Regs) → stack_of r kept.new ≡ with_interrupted base words.now at (stack_of r kept.old) }
 {

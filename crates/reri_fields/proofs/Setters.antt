@@ -1,5 +1,5 @@
 -- The fields of a word, and its bits outside the fields, after one place of it was set.
-use Rattle.std.proofs.Common.{◌≡◌, ℕ, ◌^◌, ◌<◌, Bool, true, false, ◌∙◌, ap, lit<}
+use Rattle.std.proofs.Common.{◌≡◌, ℕ, ◌^◌, ◌<◌, Bool, true, false, refl, ◌∙◌, ap, lit<}
 use Rattle.std.specs.Prelude.{◌==◌, ◌&&◌, if◌then◌else◌}
 use Rattle.std.proofs.Common.{inl, inr}
 use Rattle.std.proofs.lemmas.Bool.{and_parts, cases_Bool, eqb-true}
@@ -88,6 +88,15 @@ status_flag_after word place value =
     (reads word place 1 (if value then 1 else 0) (number_fits value))
     ∙ ap (λ test. status_read (patched word place 1 (if value then 1 else 0)) test) (flag_reads word place value)
 
+-- the fields of a word as they are read
+pub control_is : (word : ℕ) → control_fields word ≡ control_read (bits word) (λ at. bits word at 1 == 1)
+unfolding control_fields flag
+control_is word = refl
+
+pub status_is : (word : ℕ) → status_fields word ≡ status_read (bits word) (λ at. bits word at 1 == 1)
+unfolding status_fields flag
+status_is word = refl
+
 pub control_spare_after : (word low width value : ℕ) → value < 2 ^ width → is_apart 8 56 low width ≡ true
     → control_spare (with_bits word low width value) ≡ control_spare word
 unfolding control_spare
@@ -110,3 +119,8 @@ status_spare_after word low width value fits h =
     ≡ bits word 48 16 = apart word low width value 48 16 fits
     (and_parts (is_apart 9 7 low width && is_apart 24 8 low width) (is_apart 48 16 low width) h).1 in
     cc
+
+-- a word after one of its fields was set
+pub ruleset control_set = (control_is, control_after, control_flag_after, control_spare_after)
+
+pub ruleset status_set = (status_is, status_after, status_flag_after, status_spare_after)

@@ -1,5 +1,5 @@
 //! The control word.
-#![tactic(auto, using(crate::proofs::Setters::control_after, crate::proofs::Setters::control_flag_after, crate::proofs::Setters::control_spare_after), unfolding(crate::specs::Fields::control_fields, crate::specs::Fields::flag, crate::proofs::Places::patched))]
+#![tactic(auto, unfolding(crate::specs::Fields::control_fields, crate::specs::Fields::flag))]
 
 ghost use Rattle.std.specs.Prelude.{◌≡◌, ◌<◌, ◌↔◌, IsTrue};
 ghost use Rattle.reri_fields.specs.Fields.{control_fields, control_spare, level_of};
@@ -22,27 +22,11 @@ impl Control {
         flag_at(self.0, 0)
     }
 
-    /// The word with that bit set or cleared.
-    pub fn with_enable(self, value: bool) -> Control
-        ensures set { control_fields result.0 ≡ record (control_fields self.0) { enable = value } }
-        ensures others { control_spare result.0 ≡ control_spare self.0 }
-    {
-        Control(with_flag_at(self.0, 0, value))
-    }
-
     /// Whether corrected errors are counted, and logged only where the count wraps (bit 1).
     pub fn counting(self) -> bool
         ensures { result ≡ (control_fields self.0).counting }
     {
         flag_at(self.0, 1)
-    }
-
-    /// The word with that bit set or cleared.
-    pub fn with_counting(self, value: bool) -> Control
-        ensures set { control_fields result.0 ≡ record (control_fields self.0) { counting = value } }
-        ensures others { control_spare result.0 ≡ control_spare self.0 }
-    {
-        Control(with_flag_at(self.0, 1, value))
     }
 
     /// The signal code of corrected errors, 0 to 3 (bits 2 and 3).
@@ -52,15 +36,6 @@ impl Control {
         field(self.0, 2, 2) as u8
     }
 
-    /// The word with that number.
-    pub fn with_ce_signal(self, value: u8) -> Control
-        requires { value < 4 }
-        ensures set { control_fields result.0 ≡ record (control_fields self.0) { ce_signal = value } }
-        ensures others { control_spare result.0 ≡ control_spare self.0 }
-    {
-        Control(with_field(self.0, 2, 2, value as u64))
-    }
-
     /// The signal code of uncorrected errors that are deferred, 0 to 3 (bits 4 and 5).
     pub fn ued_signal(self) -> u8
         ensures { result ≡ (control_fields self.0).ued_signal }
@@ -68,29 +43,11 @@ impl Control {
         field(self.0, 4, 2) as u8
     }
 
-    /// The word with that number.
-    pub fn with_ued_signal(self, value: u8) -> Control
-        requires { value < 4 }
-        ensures set { control_fields result.0 ≡ record (control_fields self.0) { ued_signal = value } }
-        ensures others { control_spare result.0 ≡ control_spare self.0 }
-    {
-        Control(with_field(self.0, 4, 2, value as u64))
-    }
-
     /// The signal code of critical uncorrected errors, 0 to 3 (bits 6 and 7).
     pub fn uec_signal(self) -> u8
         ensures { result ≡ (control_fields self.0).uec_signal }
     {
         field(self.0, 6, 2) as u8
-    }
-
-    /// The word with that number.
-    pub fn with_uec_signal(self, value: u8) -> Control
-        requires { value < 4 }
-        ensures set { control_fields result.0 ≡ record (control_fields self.0) { uec_signal = value } }
-        ensures others { control_spare result.0 ≡ control_spare self.0 }
-    {
-        Control(with_field(self.0, 6, 2, value as u64))
     }
 
     /// The signal code of a severity: 0 none, 1 low priority, 2 high priority, 3 platform specific.
@@ -111,5 +68,51 @@ impl Control {
         ensures { IsTrue result ↔ (control_spare self.0 ≡ 0) }
     {
         field(self.0, 8, 56) == 0
+    }
+}
+
+#[tactic(auto, using(crate::proofs::Setters::control_set), unfolding(crate::proofs::Places::patched))]
+impl Control {
+    /// The word with that bit set or cleared.
+    pub fn with_enable(self, value: bool) -> Control
+        ensures set { control_fields result.0 ≡ record (control_fields self.0) { enable = value } }
+        ensures others { control_spare result.0 ≡ control_spare self.0 }
+    {
+        Control(with_flag_at(self.0, 0, value))
+    }
+
+    /// The word with that bit set or cleared.
+    pub fn with_counting(self, value: bool) -> Control
+        ensures set { control_fields result.0 ≡ record (control_fields self.0) { counting = value } }
+        ensures others { control_spare result.0 ≡ control_spare self.0 }
+    {
+        Control(with_flag_at(self.0, 1, value))
+    }
+
+    /// The word with that number.
+    pub fn with_ce_signal(self, value: u8) -> Control
+        requires { value < 4 }
+        ensures set { control_fields result.0 ≡ record (control_fields self.0) { ce_signal = value } }
+        ensures others { control_spare result.0 ≡ control_spare self.0 }
+    {
+        Control(with_field(self.0, 2, 2, value as u64))
+    }
+
+    /// The word with that number.
+    pub fn with_ued_signal(self, value: u8) -> Control
+        requires { value < 4 }
+        ensures set { control_fields result.0 ≡ record (control_fields self.0) { ued_signal = value } }
+        ensures others { control_spare result.0 ≡ control_spare self.0 }
+    {
+        Control(with_field(self.0, 4, 2, value as u64))
+    }
+
+    /// The word with that number.
+    pub fn with_uec_signal(self, value: u8) -> Control
+        requires { value < 4 }
+        ensures set { control_fields result.0 ≡ record (control_fields self.0) { uec_signal = value } }
+        ensures others { control_spare result.0 ≡ control_spare self.0 }
+    {
+        Control(with_field(self.0, 6, 2, value as u64))
     }
 }

@@ -1,5 +1,5 @@
 //! The status word.
-#![tactic(auto, using(crate::proofs::Setters::status_after, crate::proofs::Setters::status_flag_after, crate::proofs::Setters::status_spare_after), unfolding(crate::specs::Fields::status_fields, crate::specs::Fields::flag, crate::proofs::Places::patched))]
+#![tactic(auto, unfolding(crate::specs::Fields::status_fields, crate::specs::Fields::flag))]
 
 ghost use Rattle.std.specs.Prelude.{◌≡◌, ◌<◌, ◌↔◌, IsTrue};
 ghost use Rattle.reri_fields.specs.Fields.{status_fields, status_spare, greatest};
@@ -23,27 +23,11 @@ impl Status {
         flag_at(self.0, 0)
     }
 
-    /// The word with that bit set or cleared.
-    pub fn with_valid(self, value: bool) -> Status
-        ensures set { status_fields result.0 ≡ record (status_fields self.0) { valid = value } }
-        ensures others { status_spare result.0 ≡ status_spare self.0 }
-    {
-        Status(with_flag_at(self.0, 0, value))
-    }
-
     /// Whether it holds a corrected error (bit 1).
     pub fn ce(self) -> bool
         ensures { result ≡ (status_fields self.0).ce }
     {
         flag_at(self.0, 1)
-    }
-
-    /// The word with that bit set or cleared.
-    pub fn with_ce(self, value: bool) -> Status
-        ensures set { status_fields result.0 ≡ record (status_fields self.0) { ce = value } }
-        ensures others { status_spare result.0 ≡ status_spare self.0 }
-    {
-        Status(with_flag_at(self.0, 1, value))
     }
 
     /// Whether it holds an uncorrected error that is deferred (bit 2).
@@ -53,27 +37,11 @@ impl Status {
         flag_at(self.0, 2)
     }
 
-    /// The word with that bit set or cleared.
-    pub fn with_ued(self, value: bool) -> Status
-        ensures set { status_fields result.0 ≡ record (status_fields self.0) { ued = value } }
-        ensures others { status_spare result.0 ≡ status_spare self.0 }
-    {
-        Status(with_flag_at(self.0, 2, value))
-    }
-
     /// Whether it holds a critical uncorrected error (bit 3).
     pub fn uec(self) -> bool
         ensures { result ≡ (status_fields self.0).uec }
     {
         flag_at(self.0, 3)
-    }
-
-    /// The word with that bit set or cleared.
-    pub fn with_uec(self, value: bool) -> Status
-        ensures set { status_fields result.0 ≡ record (status_fields self.0) { uec = value } }
-        ensures others { status_spare result.0 ≡ status_spare self.0 }
-    {
-        Status(with_flag_at(self.0, 3, value))
     }
 
     /// The priority of the shown error, 0 to 3 (bits 4 and 5).
@@ -83,28 +51,11 @@ impl Status {
         field(self.0, 4, 2) as u8
     }
 
-    /// The word with that number.
-    pub fn with_priority(self, value: u8) -> Status
-        requires { value < 4 }
-        ensures set { status_fields result.0 ≡ record (status_fields self.0) { priority = value } }
-        ensures others { status_spare result.0 ≡ status_spare self.0 }
-    {
-        Status(with_field(self.0, 4, 2, value as u64))
-    }
-
     /// Whether two or more errors of the greatest severity came (bit 6).
     pub fn multiple(self) -> bool
         ensures { result ≡ (status_fields self.0).multiple }
     {
         flag_at(self.0, 6)
-    }
-
-    /// The word with that bit set or cleared.
-    pub fn with_multiple(self, value: bool) -> Status
-        ensures set { status_fields result.0 ≡ record (status_fields self.0) { multiple = value } }
-        ensures others { status_spare result.0 ≡ status_spare self.0 }
-    {
-        Status(with_flag_at(self.0, 6, value))
     }
 
     /// Whether the record is being read: set by a reader, cleared by an error that writes (bit 7).
@@ -114,27 +65,11 @@ impl Status {
         flag_at(self.0, 7)
     }
 
-    /// The word with that bit set or cleared.
-    pub fn with_in_progress(self, value: bool) -> Status
-        ensures set { status_fields result.0 ≡ record (status_fields self.0) { in_progress = value } }
-        ensures others { status_spare result.0 ≡ status_spare self.0 }
-    {
-        Status(with_flag_at(self.0, 7, value))
-    }
-
     /// Whether the count has wrapped; it is never cleared by an error (bit 8).
     pub fn overflow(self) -> bool
         ensures { result ≡ (status_fields self.0).overflow }
     {
         flag_at(self.0, 8)
-    }
-
-    /// The word with that bit set or cleared.
-    pub fn with_overflow(self, value: bool) -> Status
-        ensures set { status_fields result.0 ≡ record (status_fields self.0) { overflow = value } }
-        ensures others { status_spare result.0 ≡ status_spare self.0 }
-    {
-        Status(with_flag_at(self.0, 8, value))
     }
 
     /// The code of the shown error (bits 16 to 23).
@@ -144,27 +79,11 @@ impl Status {
         field(self.0, 16, 8) as u8
     }
 
-    /// The word with that number.
-    pub fn with_code(self, value: u8) -> Status
-        ensures set { status_fields result.0 ≡ record (status_fields self.0) { code = value } }
-        ensures others { status_spare result.0 ≡ status_spare self.0 }
-    {
-        Status(with_field(self.0, 16, 8, value as u64))
-    }
-
     /// How many corrected errors were counted, modulo 65,536 (bits 32 to 47).
     pub fn count(self) -> u16
         ensures { result ≡ (status_fields self.0).count }
     {
         field(self.0, 32, 16) as u16
-    }
-
-    /// The word with that number.
-    pub fn with_count(self, value: u16) -> Status
-        ensures set { status_fields result.0 ≡ record (status_fields self.0) { count = value } }
-        ensures others { status_spare result.0 ≡ status_spare self.0 }
-    {
-        Status(with_field(self.0, 32, 16, value as u64))
     }
 
     /// The greatest severity whose bit is set; None where no severity bit is set.
@@ -189,5 +108,89 @@ impl Status {
         ensures { IsTrue result ↔ (status_spare self.0 ≡ (0, 0, 0)) }
     {
         field(self.0, 9, 7) == 0 && field(self.0, 24, 8) == 0 && field(self.0, 48, 16) == 0
+    }
+}
+
+#[tactic(auto, using(crate::proofs::Setters::status_set), unfolding(crate::proofs::Places::patched))]
+impl Status {
+    /// The word with that bit set or cleared.
+    pub fn with_valid(self, value: bool) -> Status
+        ensures set { status_fields result.0 ≡ record (status_fields self.0) { valid = value } }
+        ensures others { status_spare result.0 ≡ status_spare self.0 }
+    {
+        Status(with_flag_at(self.0, 0, value))
+    }
+
+    /// The word with that bit set or cleared.
+    pub fn with_ce(self, value: bool) -> Status
+        ensures set { status_fields result.0 ≡ record (status_fields self.0) { ce = value } }
+        ensures others { status_spare result.0 ≡ status_spare self.0 }
+    {
+        Status(with_flag_at(self.0, 1, value))
+    }
+
+    /// The word with that bit set or cleared.
+    pub fn with_ued(self, value: bool) -> Status
+        ensures set { status_fields result.0 ≡ record (status_fields self.0) { ued = value } }
+        ensures others { status_spare result.0 ≡ status_spare self.0 }
+    {
+        Status(with_flag_at(self.0, 2, value))
+    }
+
+    /// The word with that bit set or cleared.
+    pub fn with_uec(self, value: bool) -> Status
+        ensures set { status_fields result.0 ≡ record (status_fields self.0) { uec = value } }
+        ensures others { status_spare result.0 ≡ status_spare self.0 }
+    {
+        Status(with_flag_at(self.0, 3, value))
+    }
+
+    /// The word with that number.
+    pub fn with_priority(self, value: u8) -> Status
+        requires { value < 4 }
+        ensures set { status_fields result.0 ≡ record (status_fields self.0) { priority = value } }
+        ensures others { status_spare result.0 ≡ status_spare self.0 }
+    {
+        Status(with_field(self.0, 4, 2, value as u64))
+    }
+
+    /// The word with that bit set or cleared.
+    pub fn with_multiple(self, value: bool) -> Status
+        ensures set { status_fields result.0 ≡ record (status_fields self.0) { multiple = value } }
+        ensures others { status_spare result.0 ≡ status_spare self.0 }
+    {
+        Status(with_flag_at(self.0, 6, value))
+    }
+
+    /// The word with that bit set or cleared.
+    pub fn with_in_progress(self, value: bool) -> Status
+        ensures set { status_fields result.0 ≡ record (status_fields self.0) { in_progress = value } }
+        ensures others { status_spare result.0 ≡ status_spare self.0 }
+    {
+        Status(with_flag_at(self.0, 7, value))
+    }
+
+    /// The word with that bit set or cleared.
+    pub fn with_overflow(self, value: bool) -> Status
+        ensures set { status_fields result.0 ≡ record (status_fields self.0) { overflow = value } }
+        ensures others { status_spare result.0 ≡ status_spare self.0 }
+    {
+        Status(with_flag_at(self.0, 8, value))
+    }
+
+    /// The word with that number.
+    pub fn with_code(self, value: u8) -> Status
+        ensures set { status_fields result.0 ≡ record (status_fields self.0) { code = value } }
+        ensures others { status_spare result.0 ≡ status_spare self.0 }
+    {
+        Status(with_field(self.0, 16, 8, value as u64))
+    }
+
+    /// The word with that number.
+    pub fn with_count(self, value: u16) -> Status
+        ensures set { status_fields result.0 ≡ record (status_fields self.0) { count = value } }
+        ensures others { status_spare result.0 ≡ status_spare self.0 }
+    {
+        Status(with_field(self.0, 32, 16, value as u64))
     }
 }

@@ -73,3 +73,6 @@ injected_some id h k n t at to f i m e =
     hart_there at to k t.harts (ap (λ (j : ℕ). elsewhere at k j) (sym m) ∙ e)
     in let q : to ≡ instance_of id k = injected_to id h k n t at to f e
     in rw (i, p) (ap (λ (x : Instance). accepted (signal x t)) (sym q))
+
+-- whether there is an instance to inject into or not
+pub ruleset injected = (injected_none, injected_some)

@@ -9,6 +9,7 @@ use Rattle.sse_base.specs.Ids.{id_of, same_instance}
 use Rattle.sse_base.specs.Choice.{Urgency, is_more_urgent}
 use Rattle.sse_queue.specs.declared.urgency.Waiting.{Waiting}
 use Rattle.sse_queue.proofs.Before.{before_both, one_before}
+pub use Rattle.sse_queue.proofs.Places.{spot_at_most, put_at_spot, holds_standing, taken_out}
 use Rattle.sse_queue.specs.Order.{urgency_of, is_before, is_in_order, has_id, put_in, without}
 
 before_all : (a b : Waiting) (vs : List Waiting) → is_before a b ≡ true → list_all (is_before b) vs ≡ true
@@ -65,3 +66,9 @@ less_in_order at (v ∷ vs) h =
       | false ↦ and_from (list_all (is_before v) (without at vs)) (is_in_order (without at vs))
           (before_fewer v at vs k.0) (less_in_order at vs k.1)
     ]
+
+-- an instance that is put in at its place
+pub ruleset put = (put_at_spot, spot_at_most, put_in_order)
+
+-- an instance that is taken out of its place
+pub ruleset taken = (taken_out, holds_standing, less_in_order)

@@ -61,7 +61,7 @@ impl Queue {
     }
 
     /// Lets an instance wait with this priority, behind all that are more urgent.
-    #[tactic(auto, using(crate::proofs::Places::put_at_spot, crate::proofs::Places::spot_at_most, crate::proofs::InOrder::put_in_order))]
+    #[tactic(auto, using(crate::proofs::InOrder::put))]
     pub fn insert(&mut self, priority: u32, at: Instance)
         requires room { length self.old < MAX_EVENTS }
         requires id { has_id (id_of at) self.old ≡ false }
@@ -73,7 +73,7 @@ impl Queue {
     }
 
     /// Lets an instance wait no longer; the others keep their order.
-    #[tactic(auto, using(crate::proofs::Places::taken_out, crate::proofs::Places::holds_standing, crate::proofs::InOrder::less_in_order))]
+    #[tactic(auto, using(crate::proofs::InOrder::taken))]
     pub fn remove(&mut self, at: Instance)
         requires { holds at self.old ≡ true }
         ensures { self.new ≡ without at self.old }

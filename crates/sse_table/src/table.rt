@@ -67,7 +67,7 @@ fn gone(state: State, mv: Move) -> State
 }
 
 /// The table at the start of a board.
-#[tactic(auto, using(crate::proofs::Orders::few_instances, crate::proofs::Orders::as_many_events, crate::proofs::Orders::order_length, crate::proofs::Orders::no_marks))]
+#[tactic(auto, using(crate::proofs::Orders::sizes))]
 fn made(alloc: Global, harts: u8, events: &[EventDecl]) -> Result<Table, AllocError>
     requires harts { harts ≤ MAX_HARTS }
     requires events { length events.now ≤ MAX_EVENTS }

@@ -108,7 +108,7 @@ impl Firmware {
     }
 
     /// Signals an event, a local one on the hart that is named.
-    #[tactic(auto, using(crate::proofs::Places::stays, crate::proofs::Injects::injected_none, crate::proofs::Injects::injected_some))]
+    #[tactic(auto, using(crate::proofs::Places::stays, crate::proofs::Injects::injected))]
     pub(super) fn inject(&mut self, hart: u8, args: [u64; 5]) -> CallNote
         requires { hart < self.old.events.harts }
         ensures { Answers hart self.old self.new result (function hart Function.Inject args self.old.stacks
