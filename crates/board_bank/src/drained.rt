@@ -120,10 +120,9 @@ impl BoardBank {
         self.slot.acknowledge()
     }
 
-    /// Takes the next phase of the drain that is under way, or else the first of a new one where a
-    /// drain may begin. The answer is the record that the drain had taken before, which is 0 where
-    /// it had none, and what the phase did. None comes exactly where no drain is due; then nothing
-    /// changes.
+    /// Goes on with a drain by one phase, or else begins one where the bank asks and its slot is free.
+    /// The answer is the record that the drain had taken before, which is 0 where it had none, and what
+    /// the phase did. None comes exactly where no drain is due; then nothing changes.
     pub fn step(&mut self) -> Option<(u8, DrainNote)>
         ensures { (plan : BankPlan) (s : BankState) → StandsFor plan s self.old
             → MatchOption result ((bank_step plan s Drains ≡ None) × (self.new ≡ self.old))
@@ -161,7 +160,7 @@ impl BoardBank {
         }
     }
 
-    /// Takes the next phase of the drain that is under way.
+    /// Lets the drain take one phase, and its bank and slot with it.
     fn advance(&mut self) -> (u8, DrainNote)
         requires { IsSome self.old.drain }
         ensures { (plan : BankPlan) (s : BankState) (d : Draining) → self.old.drain ≡ Some d

@@ -369,7 +369,7 @@ fn put_raise<K: Sink>(line: &mut Line<'_, K>, id: u32, hart: u8, signalled: bool
 
 /// Appends the text of a note to the line under way, which has to have room for 352 bytes: the longest text is
 /// that of a call. The note has to have a text: an actor that had no step has none, a Read names one of the registers
-/// 2 to 5, and a call has no words but the first `count` of an accepted write_attrs. The text is this project's own.
+/// 2 to 5, and a call tells words only where it wrote attributes, as many as it wrote. The text is this project's own.
 #[tactic(auto, unfolding(crate::specs::Notes::note_text, crate::specs::Notes::note_words))]
 pub fn note_text<K: Sink>(line: &mut Line<'_, K>, note: &StepNote)
     requires room { length (text_of line.old) + 352 ≤ 512 }
