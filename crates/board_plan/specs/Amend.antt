@@ -63,7 +63,7 @@ at_depth d (x ∷ xs) = if length (x ∷ xs) == d then Some x else at_depth d xs
 
 -- ---- What a note makes of the context under the handler of a depth ----
 
--- `set` or `load` of sepc, spp or spie by that handler: the context's pc, privilege or sie
+-- what the handler writes to one of its return registers: the context's pc, privilege or sie
 abbrev pub with_register : Reg → ℕ → Context → Context
 with_register Sepc value k = record k { pc = value }
 with_register Spp value k = record k { privilege = privilege_at (is_odd value) }

@@ -1,5 +1,5 @@
 -- What holds of published blocks until they are acknowledged, and of the claims of a drain. This project's own, over
--- the record book (RERI 1.0; ACPI 6.5, 18.3.2.7 for the acknowledgement of a block).
+-- the record book (RERI 1.0; ACPI 6.5, 18.3.2.8 for the acknowledgement of a block).
 use Rattle.std.specs.Prelude.{◌≡◌, ℕ, suc, ◌<◌, ◌≤◌, ◌==◌, ◌&&◌, not, Bool, true, false, if◌then◌else◌, List, [], ◌∷◌, ◌++◌, count_by, slice_get, Option, Some, None}
 use Rattle.std.specs.List.{list_any}
 use Rattle.reri_fields.specs.declared.report.RecordCopy.{RecordCopy}
@@ -94,7 +94,7 @@ pub record IsPublicationOf (plan : Plan) (acts : ℕ → List Act) (tries : List
   pub showed : shown (errors_at origin e.report.rec bank.history) ≡ Some e
   pub values : copy ≡ copy_after origin (events_of e.report.rec bank.history)
 
--- an error that was drained was published by exactly one Check
+-- for each drained error there is one Check that published it, and no second
 pub record WasDrainedOnce (plan : Plan) (acts : ℕ → List Act) (tries : List Step) (e : Error) : Type 0 where
   pub once : times_published plan e.step (news (ran plan acts tries).notes) ≡ 1
   pub check : IsPublicationOf plan acts tries e
@@ -112,7 +112,7 @@ pub record AreBlocksKept (plan : Plan) (acts : ℕ → List Act) : Type 0 where
 
 -- ---- Claims ----
 
--- from a Scan that took a record on, as long as no Check has published, the drain claims at most twelve times
+-- at most twelve claims are made for one record before a Check publishes it
 abbrev pub AreAtMostTwelveClaims : Plan → (ℕ → List Act) → Type 0
 AreAtMostTwelveClaims plan acts =
     (older tries : List Step) (t : Step) (d : Stepped) (bank rec : ℕ)

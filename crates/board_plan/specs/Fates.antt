@@ -59,13 +59,13 @@ is_answered test origin (Was (Reported error) ∷ deeds) step =
     (error.step == step && test (outcome origin (told deeds) error)) || is_answered test origin deeds step
 is_answered test origin (deed ∷ deeds) step = is_answered test origin deeds step
 
--- a Check of its record published while the record showed it
+-- it was the one that its record showed at some Check that published
 unfoldable pub is_drained : Origin → List Deed → ℕ → Bool
 is_drained origin [] step = false
 is_drained origin (Checked true ∷ deeds) step = is_shown origin deeds step || is_drained origin deeds step
 is_drained origin (deed ∷ deeds) step = is_drained origin deeds step
 
--- another error wrote the record while the record showed it, and no Check had published it by then
+-- it lost its record to a later error before any Check had published it
 unfoldable pub is_written_over : Origin → List Deed → ℕ → Bool
 is_written_over origin [] step = false
 is_written_over origin (Was (Reported error) ∷ deeds) step =

@@ -1,6 +1,6 @@
--- The text of a note: its words, with one space between two of them. This project's own. Numbers of banks, records,
--- harts, reporters, levels, priorities and error codes are decimal, and so is the signed code of a call's answer.
--- All other numbers are hexadecimal.
+-- The text of a note: its words, joined by single spaces. This project's own. What numbers a part of the board (a bank,
+-- record, hart or reporter), a level, a priority, an error code and the signed code that a call answers are written in
+-- decimal, and ids, addresses and words in hexadecimal.
 use Rattle.std.specs.Prelude.{ℕ, ◌==◌, ◌&&◌, nat_le, Bool, true, false, if◌then◌else◌}
 use Rattle.std.specs.Prelude.{List, [], ◌∷◌, ◌++◌, take, drop, map, slice_index, Option, Some, None, codes, decimal}
 use Rattle.std.specs.Fmt.{signed_decimal}

@@ -69,8 +69,7 @@ steps_of ns = map (λ n. n.by) ns
 
 -- ---- Whose acts ----
 
--- the acts of a reporter: those that the plan lists, or those of the device that it names, none where there is no such
--- device
+-- the acts of a reporter: its own list, or that of its device; a device that isn't there gives none
 abbrev pub acts_from : List (List Act) → Option plan_reporter.Reporter → List Act
 acts_from devices None = []
 acts_from devices (Some r) = acts_or_device devices r.acts r.device
@@ -93,12 +92,12 @@ abbrev pub rounds : Plan → ℕ → List Step
 rounds plan zero = []
 rounds plan (suc n) = rounds plan n ++ round plan
 
--- from this state on, each of the first n rounds makes a step, and the one after them makes none
+-- round n, counted from this state and from 0, is the first in which nobody makes a step
 pub record IsFirstIdle (plan : Plan) (acts : ℕ → List Act) (s : BoardState) (n : ℕ) : Type 0 where
   pub busy : (k : ℕ) → k < n → 0 < length (notes plan acts (run plan acts s (rounds plan k)) (round plan))
   pub idle : notes plan acts (run plan acts s (rounds plan n)) (round plan) ≡ []
 
--- the rounds of a plan, up to the first in which nobody made a step
+-- the rounds of a plan up to the first idle one, which is tried too
 pub record AreRounds (plan : Plan) (acts : ℕ → List Act) (tries : List Step) : Type 0 where
   pub count : ℕ
   pub first_idle : IsFirstIdle plan acts (start_state plan) count
@@ -112,7 +111,7 @@ AreScheduled plan acts (Some schedule) tries = tries ≡ schedule
 abbrev pub AreTries : Plan → (ℕ → List Act) → List Step → Type 0
 AreTries plan acts tries = AreScheduled plan acts plan.schedule tries
 
--- each entry of a list made a step, and after them nobody has one
+-- a list of which every try is a step, and after which nobody is left with one
 pub record IsWhole (plan : Plan) (acts : ℕ → List Act) (steps : List Step) : Type 0 where
   pub all_made : steps_of (ran plan acts steps).notes ≡ steps
   pub over : (t : Step) → step plan acts t (ran plan acts steps).state ≡ None

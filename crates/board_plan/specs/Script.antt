@@ -1,8 +1,7 @@
--- Which text is a script and of which plan, and at which line and why every other text is refused. This project's
--- own. A line without words, and one whose first word begins with `#`, is passed over; each other line is a
--- statement. Each form of statement is one definition: its words as a pattern (another number of them is refused
--- with Count), then what is looked at, in order, then the plan with what the line states. A form changes what the
--- statements before it made.
+-- Which text is a script and of which plan, and at which line and why every other text is refused. This project's own.
+-- Empty lines and comments, which begin with `#`, are passed over; every other line is a statement. Each form of
+-- statement is one definition: its words as a pattern (another number of them is refused with Count), then what is
+-- looked at, in order, then the plan with what the line states. A form changes what the statements before it made.
 use Rattle.std.specs.Prelude.{◌≡◌, ℕ, ◌+◌, ◌==◌, ◌&&◌, not, nat_lt, nat_le, Bool, true, false, if◌then◌else◌}
 use Rattle.std.specs.Prelude.{List, [], ◌∷◌, ◌++◌, length, slice_get, slice_set, Option, Some, None, is_none, Result, Ok, Err, codes}
 use Rattle.std.specs.List.{list_any}

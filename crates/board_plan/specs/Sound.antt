@@ -1,6 +1,6 @@
 -- What is safe in a run, at each of its states: nine facts. This project's own, over the event book (SBI 3.0,
 -- "Supervisor Software Events") and the record book (RERI 1.0).
-use Rattle.std.specs.Prelude.{◌≡◌, ℕ, zero, suc, ◌+◌, ◌≤◌, ◌<◌, ◌&&◌, max, ◌⊎◌, Bool, true, false, List, [], ◌∷◌, ◌++◌, length, sum_by, count_by, slice_get, slice_index, if◌then◌else◌, Option, Some, None, option_map}
+use Rattle.std.specs.Prelude.{◌≡◌, ℕ, zero, suc, ◌+◌, ◌≤◌, ◌<◌, ◌&&◌, max, ◌⊎◌, Bool, true, false, List, [], ◌∷◌, ◌++◌, length, not, sum_by, count_by, slice_get, slice_index, if◌then◌else◌, Option, Some, None, option_map}
 use Rattle.sse_base.specs.declared.arrows.State.{State}
 use Rattle.sse_base.specs.declared.arrows.Move.{Move}
 use Rattle.sse_base.specs.declared.arrows.Move.TheVariants as moves
@@ -58,6 +58,12 @@ makes (note.Deliver id) mv = is_delivery mv
 makes (note.Call eid fid args code written) mv = is_success code && is_move_of (function_of fid) mv
 makes n mv = false
 
+-- a completion registers a oneshot event and enables any other; all other moves are open to both
+abbrev pub fits_mark : Bool → Move → Bool
+fits_mark oneshot moves.Complete = not oneshot
+fits_mark oneshot moves.CompleteOnce = oneshot
+fits_mark oneshot mv = true
+
 -- the instance of a hart's newest handler
 abbrev pub newest_of : Option Stack → Option Instance
 newest_of None = None
@@ -85,6 +91,7 @@ EachChangeIsAnArrow plan acts s =
     (t : Step) (d : Stepped) (at : Instance) → step plan acts t s ≡ Some d
     → (state_of at d.state ≡ state_of at s)
     ⊎ ((mv : Move) × (makes d.note mv ≡ true) × (moved_in t d.note s ≡ Some at)
+    × (fits_mark (event at s.machine.events).oneshot mv ≡ true)
     × (arrow (state_of at s) mv ≡ Some (state_of at d.state)))
 
 -- ---- 2: an event runs exactly where it has a frame ----
@@ -263,7 +270,7 @@ pub record EachDrainIsSound (plan : Plan) (acts : ℕ → List Act) (s : BoardSt
 
 -- ---- 9: what is shown and published is about to be invalidated ----
 
--- it is the newest publication, its drain is about to invalidate it, and no error wrote the record since
+-- it is the newest publication, it stands unchanged, and its drain's next phase is to invalidate it
 pub record IsUnderInvalidate (x : BankState) (place : ℕ) (p : Publication) (origin : Origin) : Type 0 where
   pub newest : place ≡ 0
   pub drain : Draining

@@ -1,7 +1,7 @@
 -- A whole board between two steps, and what its plan says of each part. Its event machine is that of the event book
--- (SBI 3.0, "Supervisor Software Events"), and its banks are those of the record book (RERI 1.0, and ACPI 6.5, 18.3.2.7
--- for the slot). Harts that begin masked and in supervisor mode, budgets of steps, reporters and their limits, and that
--- a record which no statement names begins with zeros, are this project's own.
+-- (SBI 3.0, "Supervisor Software Events"), and its banks are those of the record book (RERI 1.0, and ACPI 6.5, 18.3.2.8
+-- for the slot). Harts that begin in supervisor mode, budgets of steps, reporters and their limits, and that a record
+-- which no statement names begins with zeros, are this project's own.
 use Rattle.std.specs.Prelude.{ℕ, ◌==◌, ◌&&◌, Bool, true, if◌then◌else◌, pos, List, [], ◌∷◌, map, replicate, slice_index_or}
 use Rattle.std.specs.List.{range_with_len}
 use Rattle.sse_base.specs.Machine.{Machine}

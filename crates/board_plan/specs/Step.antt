@@ -70,8 +70,8 @@ pub record Stepped : Type 0 where
 
 -- ---- A bank on a board ----
 
--- the event of a level: 1 low priority RAS, 2 high priority RAS, 3 the platform's own, each local or global as the bank
--- is
+-- the event that tells of a level, by the bank's scope: the RAS event of low priority for 1, that of high priority for
+-- 2, and the one that the plan names for 3
 abbrev pub level_event : BankDecl → ℕ → Option ℕ
 level_event d level =
     if level == 1 then Some (if d.global then 0x108000 else 0x100000)
@@ -300,7 +300,7 @@ abbrev pub on_act : Plan → BoardState → Act → Effect
 on_act plan s (act.Error report) = on_error plan report s
 on_act plan s (act.Raise id h) = on_raise id h s
 
--- a reporter is wanted where it is plugged and has made fewer acts than its limit
+-- a reporter is wanted as long as it is plugged and below its limit
 abbrev pub is_wanted : Option plan_reporter.Reporter → Option ReporterState → Bool
 is_wanted (Some decl) (Some x) = x.plugged && nat_lt x.made decl.limit
 is_wanted decl x = false

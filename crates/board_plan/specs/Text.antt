@@ -1,6 +1,6 @@
 -- The texts of a run: the trace, the full report and the short one. This project's own, but for the spelling of a
--- block, which is that of the record book. One space stands between words, bits are 0 or 1, and each line ends with a
--- newline.
+-- block, which is that of the record book. Words are joined by single spaces, a bit is the digit 0 or 1, and a newline
+-- ends each line.
 use Rattle.std.specs.Prelude.{ℕ, ◌+◌, ◌*◌, ◌/◌, ◌%◌, max, ◌==◌, nat_lt, Bool, true, false, if◌then◌else◌, List, [], ◌∷◌, ◌++◌, map, length, take, drop, Option, Some, None, codes, decimal}
 use Rattle.std.specs.List.{flat_map, range_with_len}
 use Rattle.std.specs.Fmt.{signed_decimal}

@@ -132,7 +132,7 @@ pub enum LineFault {
     Head,
     /// A word is none of those that may stand there.
     Word,
-    /// The number of words isn't that of the form.
+    /// The statement has too few words, or too many.
     Count,
     /// A word spells no number below 2^64.
     Number,

@@ -230,7 +230,7 @@ fn put_invalidate<K: Sink>(line: &mut Line<'_, K>, bank: u8, rec: u8, cleared: b
     );
 }
 
-/// The words that an accepted write_attrs took.
+/// The words of memory that went into attributes.
 fn put_written<K: Sink>(line: &mut Line<'_, K>, accepted: bool, count: u64, written: &[u64; 10])
     requires room { length (text_of line.old) + 192 ≤ 512 }
     requires few { accepted ≡ true → count ≤ 10 }

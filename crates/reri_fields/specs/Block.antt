@@ -18,7 +18,7 @@ digits (suc count) number = number % 256 ∷ digits count (number / 256)
 unfoldable pub zeros : ℕ → List ℕ
 zeros count = replicate count 0
 
--- a copy that a block can hold: it shows an error, and no bit outside the fields of its words is set
+-- a copy that a block can hold: it shows an error, and the spare bits of its two words are clear
 pub record IsCopy (copy : RecordCopy) : Type 0 where
   pub valid : (status_fields copy.status).valid ≡ true
   pub severity : IsSome (greatest (status_fields copy.status))
@@ -63,8 +63,8 @@ block_status copies =
     + (if are_several is_uncorrected copies then 4 else 0) +
     (if are_several is_corrected copies then 8 else 0) + 16 * length copies
 
--- Error Severity: 1 fatal where some copy's greatest severity is UEC, else 0 recoverable where some copy's is UED, else
--- 2 corrected
+-- Error Severity, the gravest of the copies: 1 (fatal) if any shows a critical error, 0 (recoverable) if any shows a
+-- deferred one, and 2 (corrected) if there are corrected errors alone
 unfoldable pub error_severity : List RecordCopy → ℕ
 error_severity copies = if list_any (has_worst Uec) copies then 1 else if list_any (has_worst Ued) copies then 0 else 2
 

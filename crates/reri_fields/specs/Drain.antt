@@ -1,8 +1,7 @@
 -- The drain of a bank: how firmware takes errors out of a bank's records, one phase a step, while errors go on coming.
--- Read-in-progress and the invalidation are those of RERI 1.0 (`srdp` and `sinv` of `control_i`, `rdip` of
--- `status_i`). That a slot of copies is acknowledged and then free again follows ACPI 6.5, 18.3.2.8 (GHESv2). The nine
--- phases, up to how many copies a drain gathers, and that it signals once, at the greatest level, are this project's
--- own.
+-- Read-in-progress and the invalidation are named after RERI 1.0 (`srdp` and `sinv` of `control_i`, `rdip` of
+-- `status_i`). This project's own are their exact rules, the nine phases, up to how many copies a drain gathers, that
+-- it signals once, at the greatest level, and the acknowledgement of a slot, after GHESv2 (ACPI 6.5, 18.3.2.8).
 use Rattle.std.specs.Prelude.{ℕ, suc, max, nat_lt, ◌==◌, Bool, true, false, ◌&&◌, if◌then◌else◌, List, [], ◌∷◌, ◌++◌, slice_get, Option, Some, None}
 use Rattle.std.specs.Option.{option_map}
 use Rattle.reri_fields.specs.declared.report.RecordCopy.{RecordCopy}

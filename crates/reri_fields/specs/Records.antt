@@ -1,10 +1,10 @@
 -- What an error record holds, told from all that happened to it: the errors that were reported to it, the claims of
--- those who read it, and the attempts to clear it. No register is read here but the record's control word. The order
--- of severities, that a greater error takes the place of a smaller one, and read-in-progress follow RERI 1.0 (the
--- registers `control_i` and `status_i`, and the rules for overwriting an error record) in this project's profile:
--- three severities, priorities 0 to 3, and an error of equal rank is kept out. This project's own in this form are the
--- counting of corrected errors, when several errors are told by `multiple`, and that a record without an error reads
--- 0.
+-- those who read it, and the attempts to clear it. No register is read here but the record's control word. The order of
+-- severities, that a greater error takes the place of a smaller one, and read-in-progress are named after RERI 1.0 (the
+-- registers `control_i` and `status_i`, and the rules for overwriting an error record) in this project's profile: three
+-- severities, priorities 0 to 3, and an error of equal rank is kept out. This project's own are the exact rules of
+-- read-in-progress and of an invalidation, the counting of corrected errors, when several errors are told by
+-- `multiple`, and that a record without an error reads 0.
 use Rattle.std.specs.Prelude.{◌≡◌, ℕ, ◌+◌, ◌*◌, ◌%◌, ◌^◌, ◌<◌, max, nat_lt, ◌==◌, Bool, true, false, not, ◌&&◌, ◌||◌, if◌then◌else◌}
 use Rattle.std.specs.Prelude.{List, [], ◌∷◌, ◌++◌, find, count_by, Option, Some, None}
 use Rattle.std.specs.Option.{option_map_or}
@@ -120,7 +120,7 @@ counted origin (Reported error ∷ history) =
 counted origin (Claimed ∷ history) = counted origin history
 counted origin (Invalidated ∷ history) = counted origin history
 
--- A counted error is logged where it makes the count a multiple of 65536. Every other error is logged while the record
+-- Of counted errors only each 65536th is logged, at which the count wraps. What isn't counted is logged, if the record
 -- is enabled.
 unfoldable pub is_logged : Origin → List Event → Report → Bool
 is_logged origin history report =
@@ -177,8 +177,8 @@ pub record Stands (origin : Origin) (history : List Event) (copy : RecordCopy) :
   pub overflow : (status_fields copy.status).overflow ≡ nat_lt 65535 (counted origin history)
   pub others : status_spare copy.status ≡ (0, 0, 0)
 
--- What the registers of a record always are, whatever happened to it: it is valid exactly where a severity bit is set,
--- and no bit outside the fields of its two words is set.
+-- What the registers of a record always are, whatever happened to it: the valid bit says whether any severity bit is
+-- set, and the spare bits of the two words are clear.
 pub record IsRecord (copy : RecordCopy) : Type 0 where
   pub valid : (status_fields copy.status).valid
       ≡ ((status_fields copy.status).ce || (status_fields copy.status).ued || (status_fields copy.status).uec)

@@ -1,8 +1,8 @@
 -- The ten calls of the extension.
--- SBI 3.0, "Supervisor Software Events", functions 0 to 9 of its extension. The order in which the checks of a call
--- are made, the code of each refusal, when an attribute may be written, and that a completion with no handler
--- succeeds and changes nothing, are this project's own rules. Each call below is its row of checks, from the first to
--- the last, and then its effect.
+-- SBI 3.0, "Supervisor Software Events", functions 0 to 9 of its extension. This project's own rules are which check
+-- comes before which, the code of each refusal, in which states a call or the write of an attribute is accepted, and
+-- that a completion with no handler succeeds and changes nothing. Each call below is its row of checks, from the first
+-- to the last, and then its effect.
 use Rattle.std.specs.Prelude.{ℕ, zero, suc, ◌+◌, ◌-◌, ◌*◌, ◌/◌, ◌%◌, ◌==◌, ◌&&◌, ◌||◌, not, nat_lt, nat_le, Bool, true, false, if◌then◌else◌, List, [], ◌∷◌, ◌++◌, length, replicate, slice_index, slice_set, Option, Some, None, option_map, unwrap_or, Result, Ok, Err}
 use Rattle.sse_base.specs.declared.arrows.State.{State}
 use Rattle.sse_base.specs.declared.arrows.State.TheVariants.{Unused, Registered, Enabled, Running}

@@ -1,6 +1,6 @@
 -- Which event is delivered on which hart.
 -- SBI 3.0, "Supervisor Software Events", event priority: the smaller priority first, and the smaller id at equal
--- priority. The target of a global event, and that SIE holds no delivery back, are this project's own rules.
+-- priority. To which hart a global event goes, and that a delivery comes whatever SIE is, are this project's own.
 use Rattle.std.specs.Prelude.{ℕ, suc, ◌==◌, ◌&&◌, ◌||◌, nat_lt, Bool, true, false, if◌then◌else◌, List, [], ◌∷◌, filter, slice_index_or, Option, Some, None, option_map}
 use Rattle.sse_base.specs.declared.ids.EventId.{EventId}
 use Rattle.sse_base.specs.declared.ids.Instance.{Instance}
@@ -25,14 +25,14 @@ urgency_of s = (s.event.priority, id_of s.at)
 abbrev pub is_masked : ℕ → List Bool → Bool
 is_masked h masks = slice_index_or masks h true
 
--- the unmasked hart of least number
+-- the first hart that isn't masked
 abbrev pub first_unmasked : List Bool → Option ℕ
 first_unmasked [] = None
 first_unmasked (true ∷ masks) = option_map suc (first_unmasked masks)
 first_unmasked (false ∷ masks) = Some 0
 
 -- the hart on which an instance is delivered: its own for a local one; for a global one its preferred hart, or where
--- that is masked the unmasked hart of least number
+-- that is masked the first that isn't
 unfoldable pub target : Instance → ℕ → List Bool → Option ℕ
 target (Local id hart) preferred masks = Some hart
 target (Global id) preferred masks = if is_masked preferred masks then first_unmasked masks else Some preferred
@@ -58,7 +58,7 @@ abbrev pub least : List Slot → Option Slot
 least [] = None
 least (s ∷ ss) = Some (more_urgent_of s (least ss))
 
--- it is chosen where nothing runs, or where it is strictly more urgent than what runs
+-- it goes first if nothing runs, or only something that is less urgent
 abbrev pub is_above : Slot → Option Urgency → Bool
 is_above s None = true
 is_above s (Some top) = is_more_urgent (urgency_of s) top

@@ -1,8 +1,7 @@
--- What a hart runs, and what its handlers interrupted.
--- SBI 3.0, "Supervisor Software Events", software event delivery and completion, and the INTERRUPTED attributes.
--- A saved value stands here with the frame to which it belongs: the code's registers and attributes keep it one level
--- away. That sepc keeps all 64 bits, and what an INTERRUPTED attribute reads where nothing runs, are this project's
--- own rules.
+-- What a hart runs, and what its handlers interrupted. SBI 3.0, "Supervisor Software Events", software event delivery
+-- and completion, and the INTERRUPTED attributes. A saved value stands here with the frame to which it belongs: the
+-- code's registers and attributes keep it one level away. This project's own rules are that no bit of sepc is dropped,
+-- and the 0 that an INTERRUPTED attribute reads where nothing runs.
 use Rattle.std.specs.Prelude.{ℕ, ◌+◌, ◌*◌, ◌/◌, ◌%◌, ◌==◌, Bool, true, false, if◌then◌else◌, List, [], ◌∷◌, Option, Some, None}
 use Rattle.std.specs.List.{list_any}
 use Rattle.sse_base.specs.declared.contexts.Privilege.{Privilege}

@@ -1,6 +1,6 @@
 -- The events of a board: three lists side by side, in the order of the instances.
--- SBI 3.0, "Supervisor Software Events", event states and attributes. What an unregister clears and keeps is this
--- project's own rule.
+-- SBI 3.0, "Supervisor Software Events", event states and attributes. Which attributes outlive an unregister is
+-- this project's own rule.
 use Rattle.std.specs.Prelude.{ℕ, ◌<◌, Bool, true, false, nat_lt, if◌then◌else◌, List, [], ◌∷◌, map, length, slice_index_or, slice_set, Option, option_map, unwrap_or}
 use Rattle.std.specs.List.{flat_map}
 use Rattle.sse_base.specs.declared.arrows.State.{State}

@@ -1,4 +1,4 @@
--- The machine of a board: what its firmware keeps, as plain lists.
+-- The machine of a board: what its firmware keeps, as plain lists. The form is this project's own.
 use Rattle.std.specs.Prelude.{ℕ, Bool, List, slice_index_or, slice_set}
 use Rattle.sse_base.specs.Events.{Events}
 use Rattle.sse_base.specs.Contexts.{Stack, fresh_stack}
