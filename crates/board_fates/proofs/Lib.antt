@@ -5,3 +5,6 @@ pub mod Numbers
 pub mod News
 pub mod Tallying
 pub mod Pushed
+pub mod Steps
+pub mod Histories
+pub mod Runs
