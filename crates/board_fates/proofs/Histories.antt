@@ -190,8 +190,8 @@ claim_is : (o : Option Origin) (rec : ℕ) (history : List BankEvent) (events : 
 claim_is None rec history events h = refl
 claim_is (Some origin) rec history events h = ap (in_progress origin) (sym h)
 
-pub note_true : (plan : Plan) (steps at : ℕ) (d : BankDecl) (events : Events) (history next : List BankEvent) (n : BankNote)
-    (ns : List News) → slice_get plan.banks at ≡ Some d
+pub note_true : (plan : Plan) (steps at : ℕ) (d : BankDecl) (events : Events) (history next : List BankEvent)
+    (n : BankNote) (ns : List News) → slice_get plan.banks at ≡ Some d
     → Becomes steps at (bank_plan at d plan.recs).origins history next n
     → steps ≡ length ns → ((rec : ℕ) → told (deeds_of at rec ns) ≡ events_of rec history)
     → IsTrue plan ns (bank_note at d events n)

@@ -319,7 +319,8 @@ unfolding shows_unpublished is_drained
 mark_torn origin deeds = refl
 
 published_now : (origin : Origin) (deeds : List Deed) (o : Option Error) → shown (since origin (told deeds)) ≡ o
-    → option_map_or (λ (x : Error). not (is_shown origin deeds x.step || is_drained origin deeds x.step)) o false ≡ false
+    → option_map_or (λ (x : Error). not (is_shown origin deeds x.step || is_drained origin deeds x.step)) o false
+    ≡ false
 unfolding is_shown came_at
 published_now origin deeds None is = refl
 published_now origin deeds (Some x) is =

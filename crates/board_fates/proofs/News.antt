@@ -120,7 +120,8 @@ torn_rests plan ns bank rec =
     (λ origin _ k _. stays_moves origin (Checked false) deeds k (torn_stays origin deeds k))
     (λ origin _. mark_torn origin deeds)
 
-pub check_changes : (plan : Plan) (ns : List News) (bank rec : ℕ) (origin : Origin) → origin_at plan bank rec ≡ Some origin
+pub check_changes : (plan : Plan) (ns : List News) (bank rec : ℕ) (origin : Origin)
+    → origin_at plan bank rec ≡ Some origin
     → Changes plan to_stands to_drained (Checks bank rec true) ns bank rec false
 check_changes plan ns bank rec origin there =
     let deeds = deeds_of bank rec ns in

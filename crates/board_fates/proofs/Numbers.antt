@@ -157,7 +157,8 @@ record_moves from into deed deeds k f (Some origin) h = h origin refl f
 abbrev MovesAt : Plan → (Fate → Bool) → (Fate → Bool) → News → List News → ℕ → ℕ → Fate → ℕ → ℕ → ℕ → Type 0
 MovesAt plan from into n ns bank rec f k b r =
     let has : Fate → Bool = λ g. has_fate_of g (deeds_of b r ns) k (origin_at plan b r) in
-    bit (has_fate_of f (deeds_of b r (n ∷ ns)) k (origin_at plan b r)) + bit (from f && (is_at bank rec b r && has Stands))
+    bit (has_fate_of f (deeds_of b r (n ∷ ns)) k (origin_at plan b r))
+    + bit (from f && (is_at bank rec b r && has Stands))
     ≡ bit (has f) + bit (into f && (is_at bank rec b r && has Stands))
 
 moves_here : (plan : Plan) (from into : Fate → Bool) (deed : Deed) (n : News) (ns : List News) (bank rec : ℕ) (f : Fate)
@@ -169,7 +170,8 @@ moves_here plan from into deed n ns bank rec f k is h =
     let o = origin_at plan bank rec in
     let there : deeds_of bank rec (n ∷ ns) ≡ deed ∷ deeds =
     ap (λ d. with_deed d deeds) (is bank rec ∙ ap (λ b. cond b (Some deed) None) (at_itself bank rec)) in
-    ap (λ ds. bit (has_fate_of f ds k o) + bit (from f && (is_at bank rec bank rec && has_fate_of Stands deeds k o))) there
+    let stands = has_fate_of Stands deeds k o in
+    ap (λ ds. bit (has_fate_of f ds k o) + bit (from f && (is_at bank rec bank rec && stands))) there
     ∙ ap (λ b. bit (has_fate_of f (deed ∷ deeds) k o) + bit (from f && (b && has_fate_of Stands deeds k o)))
     (at_itself bank rec)
     ∙ record_moves from into deed deeds k f o h

@@ -75,7 +75,8 @@ abbrev pub Balance : (Error → Bool) → (Error → Bool) → (Error → Bool) 
 Balance p g q h k = (e : Error) → e.step ≤ k → bit (p e) + bit (g e) ≡ bit (q e) + bit (h e)
 
 errors_balance : (p g q h : Error → Bool) (n : News) (ns : List News) (k : ℕ) → suc (length ns) ≤ k → Balance p g q h k
-    → count_by p (errors_made ns) + count_by g (errors_made ns) ≡ count_by q (errors_made ns) + count_by h (errors_made ns)
+    → count_by p (errors_made ns) + count_by g (errors_made ns)
+    ≡ count_by q (errors_made ns) + count_by h (errors_made ns)
     → count_by p (errors_made (n ∷ ns)) + count_by g (errors_made (n ∷ ns))
     ≡ count_by q (errors_made (n ∷ ns)) + count_by h (errors_made (n ∷ ns))
 errors_balance p g q h (Errs report) ns k le each rest =
@@ -96,7 +97,8 @@ errors_balance p g q h Other ns k le each rest = rest
 
 -- where two sums are the same at each error, they are the same over all
 pub balance : (p g q h : Error → Bool) (ns : List News) (k : ℕ) → length ns ≤ k → Balance p g q h k
-    → count_by p (errors_made ns) + count_by g (errors_made ns) ≡ count_by q (errors_made ns) + count_by h (errors_made ns)
+    → count_by p (errors_made ns) + count_by g (errors_made ns)
+    ≡ count_by q (errors_made ns) + count_by h (errors_made ns)
 balance p g q h [] k le each = refl
 balance p g q h (n ∷ ns) k le each =
     errors_balance p g q h n ns k le each (balance p g q h ns k (omega arith) each)

@@ -131,7 +131,8 @@ loaded_quiet : (reg : Reg) (r : Reach) (o : Option ℕ) → is_quiet (loaded reg
 loaded_quiet reg r None = refl
 loaded_quiet reg r (Some word) = refl
 
-stored_quiet : (r : Reach) (n : StepNote) (o : Option (List ℕ)) → is_quiet n ≡ true → is_quiet (stored r n o).note ≡ true
+stored_quiet : (r : Reach) (n : StepNote) (o : Option (List ℕ)) → is_quiet n ≡ true
+    → is_quiet (stored r n o).note ≡ true
 stored_quiet r n None h = refl
 stored_quiet r n (Some memory) h = h
 
@@ -144,7 +145,9 @@ risen_quiet addr r (Some word) =
 jumped_quiet : (value pc : ℕ) (r : Reach) (o : Option ℕ) → is_quiet (jumped value pc r o).note ≡ true
 jumped_quiet value pc r None = refl
 jumped_quiet value pc r (Some word) =
-    elim (nat_lt word value) as (λ b. is_quiet (cond b (done (on_stack (with_pc pc) r) (note.Jlt true)) (done r (note.Jlt false))).note ≡ true)
+    let on = done (on_stack (with_pc pc) r) (note.Jlt true) in
+    let past = done r (note.Jlt false) in
+    elim (nat_lt word value) as (λ b. is_quiet (cond b on past).note ≡ true)
     [ true ↦ refl | false ↦ refl ]
 
 acknowledged : (plan : Plan) (steps bank : ℕ) (r : BoardReach) (o : Option Effect)
@@ -261,8 +264,8 @@ act_so plan s (act.Error report) =
     s.machine.events s.banks) refl
 act_so plan s (act.Raise id h) = quiet refl refl
 
-pub reporter_goes : (plan : Plan) (r : ℕ) (s : BoardState) (o : Option Act) (d : Stepped) → reporter_step r plan o s ≡ Some d
-    → Goes plan s d
+pub reporter_goes : (plan : Plan) (r : ℕ) (s : BoardState) (o : Option Act) (d : Stepped)
+    → reporter_step r plan o s ≡ Some d → Goes plan s d
 unfolding reporter_step
 reporter_goes plan r s None d is = absurd (none-some d is)
 reporter_goes plan r s (Some a) d is =

@@ -517,7 +517,8 @@ unfolding is_unpublished_at
 unmarked plan ns report at =
     ap (λ o. option_map_or (λ (p : Origin). shows_unpublished p (deeds_of report.bank report.rec ns)) o false) at
 
-tally_answered : (plan : Plan) (ns : List News) (report : Report) (logged : Option Logged) (t : Tally) (o : Option Origin)
+tally_answered : (plan : Plan) (ns : List News) (report : Report) (logged : Option Logged) (t : Tally)
+    (o : Option Origin)
     → length ns ≤ 160000 → origin_at plan report.bank report.rec ≡ o
     → logged ≡ answer_to plan ns (error_at (suc (length ns)) report)
     → logged ≡ option_map (λ origin. outcome origin (told (deeds_of report.bank report.rec ns))

@@ -21,7 +21,8 @@ use Rattle.board_fates.specs.Counted.{mark_at}
 -- the record shows an error that no Check has published
 unfoldable pub shows_unpublished : Origin → List Deed → Bool
 shows_unpublished origin deeds =
-    option_map_or (λ (error : Error). not (is_drained origin deeds error.step)) (shown (since origin (told deeds))) false
+    option_map_or (λ (error : Error). not (is_drained origin deeds error.step)) (shown (since origin (told deeds)))
+    false
 
 -- the same of a record of a plan; false where the plan has no such record
 unfoldable pub is_unpublished_at : Plan → List News → ℕ → ℕ → Bool
