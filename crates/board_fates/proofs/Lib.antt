@@ -1,0 +1,10 @@
+pub mod Shown
+pub mod Places
+pub mod Moves
+pub mod Numbers
+pub mod News
+pub mod Tallying
+pub mod Pushed
+pub mod Steps
+pub mod Histories
+pub mod Runs

@@ -1,0 +1,157 @@
+//! A tally of fates.
+
+ghost use Rattle.std.specs.Prelude.{◌≡◌, [], ◌∷◌, ◌++◌, List};
+ghost use Rattle.board_plan.specs.Plans.{IsPlan};
+ghost use Rattle.board_plan.specs.Run.{Noted};
+ghost use Rattle.board_plan.specs.Fates.{fates_of};
+ghost use Rattle.board_fates.specs.Counted.{mark_at, one_made, with_answer, with_mark, with_error, fallen, with_published, with_cleared, with_note};
+ghost use Rattle.board_fates.specs.Tallied.{Tallies, IsNext};
+
+use board_plan::{Fates, Plan, Step, StepNote};
+use reri_fields::Logged;
+
+/// A mark for each record of a board: 4 banks of up to 64 records each.
+const MARKS: usize = 256;
+
+/// How many errors have each fate, and which records show an error that no Check has published.
+/// This project's own.
+#[derive(Clone, Copy)]
+pub struct Tally {
+    counts: Fates,
+    marks: [bool; MARKS],
+}
+
+impl Tally {
+    /// Before the first step: no error was made, and no record shows one.
+    pub fn new() -> Tally
+        ensures { (plan : Plan) → IsPlan plan → Tallies plan [] result }
+    {
+        let counts = Fates {
+            made: 0,
+            stray: 0,
+            disabled: 0,
+            counted: 0,
+            drained: 0,
+            overwritten: 0,
+            kept: 0,
+            stands: 0,
+        };
+        Tally {
+            counts,
+            marks: [false; MARKS],
+        }
+    }
+
+    /// How many errors have each fate, by the notes that were counted.
+    pub fn fates(&self) -> Fates
+        ensures { (plan : Plan) (ns : List Noted) → Tallies plan ns self.now → result ≡ fates_of plan ns }
+    {
+        self.counts
+    }
+
+    /// Counts a note, which is the next of a run.
+    pub fn count(&mut self, note: &StepNote)
+        ensures { (plan : Plan) (ns : List Noted) (by : Step) → Tallies plan ns self.old → IsNext plan ns note.now
+            → Tallies plan (ns ++ record { by = by; note = note.now } ∷ []) self.new }
+    {
+        self.add(note);
+    }
+
+    /// Does what a note says, whatever it is.
+    fn add(&mut self, note: &StepNote)
+        ensures { self.new ≡ with_note note.now self.old }
+    {
+        match *note {
+            StepNote::Error { report, logged } => self.add_error(report.bank, report.rec, logged),
+            StepNote::Check { bank, rec, torn } => {
+                if !torn {
+                    self.add_published(bank, rec);
+                }
+            }
+            StepNote::Invalidate { bank, rec, cleared } => {
+                if cleared {
+                    self.add_cleared(bank, rec);
+                }
+            }
+            _ => {}
+        }
+    }
+
+    /// An error was answered so; None where there is no such record.
+    fn add_error(&mut self, bank: u8, rec: u8, logged: Option<Logged>)
+        ensures { self.new ≡ with_error bank rec logged self.old }
+    {
+        let mark = self.mark(bank, rec);
+        self.counts.made = self.counts.made.saturating_add(1);
+        self.add_answer(logged, mark);
+        if let Some(Logged::Wrote { .. }) = logged {
+            self.set_mark(bank, rec, true);
+        }
+    }
+
+    /// Counts an answer. An error that writes over one that no Check has published stands in its place.
+    fn add_answer(&mut self, logged: Option<Logged>, mark: bool)
+        ensures { self.new ≡ record self.old { counts = with_answer logged mark self.old.counts } }
+    {
+        match logged {
+            None => self.counts.stray = self.counts.stray.saturating_add(1),
+            Some(Logged::Disabled) => self.counts.disabled = self.counts.disabled.saturating_add(1),
+            Some(Logged::Counted) => self.counts.counted = self.counts.counted.saturating_add(1),
+            Some(Logged::Wrote { .. }) if mark => self.counts.overwritten = self
+                .counts
+                .overwritten
+                .saturating_add(1),
+            Some(Logged::Wrote { .. }) => self.counts.stands = self.counts.stands.saturating_add(1),
+            Some(Logged::Kept) => self.counts.kept = self.counts.kept.saturating_add(1),
+        }
+    }
+
+    /// A Check published what a record shows.
+    fn add_published(&mut self, bank: u8, rec: u8)
+        ensures { self.new ≡ with_published bank rec self.old }
+    {
+        if self.mark(bank, rec) {
+            self.fall(bank, rec);
+            self.counts.drained = self.counts.drained.saturating_add(1);
+        }
+    }
+
+    /// An invalidation cleared a record. On a board a Check has published what it showed.
+    fn add_cleared(&mut self, bank: u8, rec: u8)
+        ensures { self.new ≡ with_cleared bank rec self.old }
+    {
+        if self.mark(bank, rec) {
+            self.fall(bank, rec);
+        }
+    }
+
+    /// What a marked record shows stands no longer.
+    fn fall(&mut self, bank: u8, rec: u8)
+        ensures { self.new ≡ fallen bank rec self.old }
+    {
+        self.counts.stands = self.counts.stands.saturating_sub(1);
+        self.set_mark(bank, rec, false);
+    }
+
+    /// Whether a record is marked; one that no board can have isn't.
+    fn mark(&self, bank: u8, rec: u8) -> bool
+        ensures { result ≡ mark_at bank rec self.now }
+    {
+        let place = 64 * bank as usize + rec as usize;
+        if place < MARKS {
+            self.marks[place]
+        } else {
+            false
+        }
+    }
+
+    /// Marks a record, or takes its mark; one that no board can have stays as it is.
+    fn set_mark(&mut self, bank: u8, rec: u8, mark: bool)
+        ensures { self.new ≡ with_mark bank rec mark self.old }
+    {
+        let place = 64 * bank as usize + rec as usize;
+        if place < MARKS {
+            self.marks[place] = mark;
+        }
+    }
+}
