@@ -1,2 +1,8 @@
--- Lemmas on the tables of a reader.
+-- Lemmas on the tables of a reader, and on what the plan of a script always is.
 pub mod Tables
+pub mod Steps
+pub mod Chains
+pub mod Fits
+pub mod Taken
+pub mod Kept
+pub mod Boards

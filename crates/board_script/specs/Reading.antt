@@ -1,8 +1,11 @@
 -- What the parts of the reader answer, against the rules of scripts in the board book. This project's own.
-use Rattle.std.specs.Prelude.{◌≡◌, ℕ, List, map, Result, Ok, Err}
+use Rattle.std.specs.Prelude.{◌≡◌, ℕ, ◌<◌, List, length, map, slice_get, Some, Result, Ok, Err}
 use Rattle.std.specs.Borrow.{Bor}
+use Rattle.board_plan.specs.declared.notes.Step.{Step}
+use Rattle.board_plan.specs.declared.notes.Step.TheVariants.{Hart, Reporter}
 use Rattle.board_plan.specs.declared.plan.LineFault.{LineFault}
-use Rattle.board_plan.specs.Script.{Refusal}
+use Rattle.board_plan.specs.declared.plan.Plan.{Plan}
+use Rattle.board_plan.specs.Script.{Refusal, steps_of}
 use Rattle.board_script.specs.declared.fault.ReadFault.{ReadFault}
 use Rattle.board_script.specs.declared.fault.ReadFault.TheVariants as fault
 use Rattle.board_script.specs.declared.fault.ScriptError.{ScriptError}
@@ -36,3 +39,12 @@ IsFault NoMemory wanted = Unit {0}
 abbrev pub Passes : {X Y : Type 0} → Result X ScriptError → Y → Result Y Refusal → Type 0
 Passes (Ok x) new wanted = wanted ≡ Ok new
 Passes (Err e) new wanted = IsFault e wanted
+
+-- an entry of a schedule that names a hart or a reporter of the board
+abbrev pub IsOfBoard : Plan → Step → Type 0
+IsOfBoard plan (Hart h) = h < plan.harts
+IsOfBoard plan (Reporter r) = r < length plan.reporters
+
+-- each entry of a given schedule is one
+abbrev pub EntriesAreOfBoard : Plan → Type 0
+EntriesAreOfBoard plan = (i : ℕ) (t : Step) → slice_get (steps_of plan.schedule) i ≡ Some t → IsOfBoard plan t

@@ -1,6 +1,6 @@
 //! Reads a script line by line.
 
-ghost use Rattle.std.specs.Prelude.{◌≡◌, ◌<◌, ◌≤◌, ◌+◌, ◌^◌, length, IfOk, IfErr, OnOk, Ok};
+ghost use Rattle.std.specs.Prelude.{◌≡◌, ◌<◌, ◌≤◌, ◌+◌, ◌^◌, [], length, IfOk, IfErr, OnOk, Ok};
 ghost use Rattle.ras_text.specs.Pieces.{words, lines};
 ghost use Rattle.board_plan.specs.Script.{
   statement,
@@ -12,7 +12,9 @@ ghost use Rattle.board_plan.specs.Script.{
   script,
   Reads,
 };
-ghost use Rattle.board_script.specs.Reading.{texts, Moves, IsFault, Passes};
+ghost use Rattle.board_plan.specs.Plans.{IsPlan, AreReports};
+ghost use Rattle.board_plan.specs.Run.{lists};
+ghost use Rattle.board_script.specs.Reading.{texts, Moves, IsFault, Passes, EntriesAreOfBoard};
 
 use crate::fault::{ReadFault, ScriptError};
 use crate::half::{Half, board};
@@ -184,11 +186,16 @@ fn follow<'a>(begun: Begun<'a>, into: &mut Vec<&'a [u8]>) -> Result<Plan, Script
 }
 
 /// Reads a script. BadLine comes exactly where the text isn't one: the first line that is refused, and
-/// why. NoMemory comes where no memory is found. The form of scripts is this project's own.
+/// why. NoMemory comes where no memory is found. A plan that is read is one that a board can be made of, and each
+/// error that its reporters act has a priority below 4; the entries of its schedule name harts and reporters of the
+/// board. The form of scripts is this project's own.
 #[tactic(auto, unfolding(board_plan::specs::Script::script))]
 pub fn read(alloc: Global, text: &[u8]) -> Result<Plan, ScriptError>
     requires { length text.now + 1 < 2 ^ 32 }
     ensures plan { IfOk result (λ plan. Reads text.now plan) }
+    ensures is_plan { IfOk result (λ plan. IsPlan plan) }
+    ensures reports { IfOk result (λ plan. AreReports (lists plan [])) }
+    ensures entries { IfOk result (λ plan. EntriesAreOfBoard plan) }
     ensures refused { IfErr result (λ e. IsFault e (script text.now)) }
 {
     let mut words = Vec::new(alloc);
