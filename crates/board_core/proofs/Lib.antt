@@ -1,2 +1,4 @@
+pub mod Early
 pub mod Going
+pub mod Spent
 pub mod Steps
