@@ -1,6 +1,6 @@
 -- What each step keeps: errors came to the banks at steps that were made before, no step is noted as one that had
 -- nothing to do, and of the reporters only the one whose step it is has made more.
-use Rattle.std.proofs.Common.{◌≡◌, ◌≢◌, ℕ, suc, ◌+◌, ◌%◌, ◌^◌, ◌<◌, ◌≤◌, ◌&&◌, Bool, true, false, cond, nat_lt, List, [], ◌∷◌, map, length, set, slice_get, Option, Some, None, is_some, refl, inl, inr, sym, ap, ◌∙◌, subst, arith}
+use Rattle.std.proofs.Common.{◌≡◌, ◌≢◌, ℕ, suc, ◌+◌, ◌%◌, ◌^◌, ◌<◌, ◌≤◌, ◌&&◌, Bool, true, false, cond, nat_lt, List, [], ◌∷◌, map, length, set, slice_get, Option, Some, None, refl, inl, inr, sym, ap, ◌∙◌, subst, arith}
 use Rattle.std.specs.Option.{option_map}
 use Rattle.std.specs.Prelude.{unwrap_or}
 use Rattle.std.proofs.Math.Seq.{map-set_same}
@@ -8,7 +8,6 @@ use Rattle.std.proofs.lemmas.Bool.{cases_eq, ltb-true}
 use Rattle.std.proofs.lemmas.List.{length-set}
 use Rattle.std.proofs.lemmas.Option.{get_or_from_slice_get, none-some, same_Some, slice_get-map, slice_get_within}
 use Rattle.sse_base.specs.declared.ids.Instance.{Instance}
-use Rattle.sse_base.specs.Ids.{id_of}
 use Rattle.sse_base.specs.Contexts.{Stack, with_pc}
 use Rattle.sse_base.specs.Events.{Events}
 use Rattle.sse_base.specs.Words.{load, store}
@@ -18,7 +17,6 @@ use Rattle.reri_fields.specs.declared.drain.DrainNote.{DrainNote}
 use Rattle.reri_fields.specs.declared.drain.DrainNote.TheVariants as drain
 use Rattle.reri_fields.specs.declared.drain.Phase.{Phase}
 use Rattle.reri_fields.specs.declared.drain.Phase.TheVariants.{Scan, Claim, Address, Info, Supplement, Time, Check, Invalidate, Signal}
-use Rattle.reri_fields.specs.declared.report.Report.{Report}
 use Rattle.reri_fields.specs.Records.{Error, Origin}
 use Rattle.reri_fields.specs.Banks.{AllLogsBefore, BankEvent, least_signalled}
 use Rattle.reri_fields.specs.Banks.BankEvent.{Logs, Claims, Invalidates, ScanOver}
@@ -28,7 +26,6 @@ use Rattle.reri_fields.specs.Drain.BankTry.{Reports, Drains, Acknowledges}
 use Rattle.reri_fields.specs.Drain.BankNote.{Heard, Drew, Acknowledged}
 use Rattle.ras_device.specs.declared.act.Act.{Act}
 use Rattle.ras_device.specs.declared.act.Act.TheVariants as act
-use Rattle.board_plan.specs.declared.notes.Counts.{Counts}
 use Rattle.board_plan.specs.declared.notes.Step.{Step}
 use Rattle.board_plan.specs.declared.notes.Step.TheVariants.{Hart, Reporter}
 use Rattle.board_plan.specs.declared.notes.StepNote.{StepNote}
@@ -41,7 +38,7 @@ use Rattle.board_plan.specs.declared.plan.Reporter as plan_reporter
 use Rattle.board_plan.specs.declared.plan.Plan.{Plan}
 use Rattle.board_plan.specs.State.{BoardState, ReporterState, bank_plan, budget_of, counts_of, start_state}
 use Rattle.board_plan.specs.Ops.{Done, done, is_user, jump, jumped, loaded, needs_supervisor, on_stack, op_at, past, register, risen, save, sbi, sret, store_word, stored, set as set_op}
-use Rattle.board_plan.specs.Step.{BoardReach, Effect, Made, Stepped, acknowledge, after_hart, after_reporter, allowed, apply, at_bank, bank_due, bank_effect, bank_note, board_reach, counted, drain_note, hart_step, is_wanted, on_act, on_chosen, on_due, on_error, on_own, one_more, own_step, quietly, reporter_step, step_of, tried_at, unplugged, wants, with_effect, with_one_more, next_act, step}
+use Rattle.board_plan.specs.Step.{BoardReach, Effect, Made, Stepped, after_hart, after_reporter, allowed, apply, at_bank, bank_due, bank_effect, bank_note, board_reach, counted, drain_note, hart_step, is_wanted, on_act, on_chosen, on_due, on_own, one_more, own_step, quietly, reporter_step, step_of, tried_at, unplugged, wants, with_effect, with_one_more, next_act, step}
 use Rattle.board_parts.specs.Shows.{AreEarly}
 
 -- ---- The histories of banks ----
@@ -379,11 +376,11 @@ act_effect plan s (act.Error report) =
   where
     error_effect : (o : Option Effect) → AreEffects (suc (suc s.steps)) s.banks o
         → IsEffect (suc (suc s.steps)) s.banks (unwrap_or o (record {
-      events = s.machine.events;
-      banks = s.banks;
-      note = note.Error report None;
-      published = None;
-    }))
+          events = s.machine.events;
+          banks = s.banks;
+          note = note.Error report None;
+          published = None;
+        }))
     error_effect None are = record { before = λ before. before; told = refl }
     error_effect (Some e) are = are
 

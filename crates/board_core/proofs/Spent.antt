@@ -1,10 +1,10 @@
 -- Harts and reporters stay within their budgets and limits, so that no more steps are made than these allow.
-use Rattle.std.proofs.Common.{◌≡◌, ℕ, zero, suc, ◌+◌, ◌<◌, ◌≤◌, ◌==◌, Bool, true, false, cond, List, [], ◌∷◌, map, length, get_or, set, slice_get, replicate, Option, Some, None, refl, inl, inr, sym, ap, ◌∙◌, subst, arith}
+use Rattle.std.proofs.Common.{◌≡◌, ℕ, zero, suc, ◌+◌, ◌<◌, ◌≤◌, ◌==◌, cond, List, [], ◌∷◌, map, length, get_or, set, replicate, Option, Some, refl, inl, inr, sym, ap, ◌∙◌, subst, arith}
 use Rattle.std.specs.Option.{option_map}
 use Rattle.std.specs.Prelude.{sum_by}
 use Rattle.std.specs.List.{sum, range_with_len}
 use Rattle.std.proofs.lemmas.Bool.{cases_eq, eq-eqb, ne_eqb}
-use Rattle.std.proofs.lemmas.List.{length-map, map-set, get_or-map}
+use Rattle.std.proofs.lemmas.List.{length-map, map-set}
 use Rattle.std.proofs.lemmas.List.FromFn.{get_or-map-range_with_len, length-map-range_with_len, map-range_with_len_more}
 use Rattle.std.proofs.lemmas.List.Sums.{sum_by-cons, sum_by-set, sum_by_push, sum-map}
 use Rattle.std.proofs.Math.Numerals.{add-one}
@@ -19,7 +19,7 @@ use Rattle.board_plan.specs.Plans.{most_steps}
 use Rattle.board_plan.specs.State.{BoardState, ReporterState, budget_of, counts_of, fresh_reporter, no_counts, start_state}
 use Rattle.board_plan.specs.Step.{Stepped, counted, hart_step, one_more, reporter_step}
 use Rattle.ras_device.specs.declared.act.Act.{Act}
-use Rattle.board_parts.specs.Shows.{AreEarly, budgets, limits}
+use Rattle.board_parts.specs.Shows.{budgets, limits}
 use Rattle.board_core.specs.Reached.{AreWithin, IsReached, made, spent}
 use Rattle.board_core.proofs.Early.{HartStep, ReporterStep, early_start, hart_makes, reporter_makes}
 
