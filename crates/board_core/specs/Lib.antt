@@ -1,2 +1,5 @@
 -- A board as what was played on it.
+pub mod Inside
 pub mod Played
+pub mod Reached
+pub mod Rooms

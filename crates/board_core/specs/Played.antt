@@ -1,9 +1,7 @@
 -- A board as what was played on it, and what it has come to by that. This project's own, over the runs of the board
 -- book.
-use Rattle.std.specs.Prelude.{◌≡◌, ◌≤◌, ◌<◌, ℕ, Bool, true, false, List, [], ◌∷◌, ◌++◌, length, take, map, slice_get, slice_set, slice_index_or, Option, Some, None, is_none}
+use Rattle.std.specs.Prelude.{◌≡◌, ◌≤◌, ℕ, Bool, true, false, List, [], ◌∷◌, ◌++◌, length, take, map, slice_get, slice_set, slice_index_or, Option, Some, None, is_none}
 use Rattle.ras_device.specs.declared.act.Act.{Act}
-use Rattle.ras_device.specs.declared.act.Act.TheVariants as act
-use Rattle.reri_fields.specs.declared.report.Report.{Report}
 use Rattle.board_plan.specs.declared.notes.Step.{Step}
 use Rattle.board_plan.specs.declared.notes.Step.TheVariants.{Hart, Reporter}
 use Rattle.board_plan.specs.declared.notes.StepNote.{StepNote}
@@ -14,6 +12,7 @@ use Rattle.board_plan.specs.Plans.{IsPlan, AreReports, most_steps}
 use Rattle.board_plan.specs.State.{BoardState}
 use Rattle.board_plan.specs.Step.{Stepped, hart_step, reporter_step, acts_made}
 use Rattle.board_plan.specs.Run.{Ran, ran, steps_of, lists}
+pub use Rattle.board_parts.specs.Came.{IsReport}
 
 -- the plan, the acts that each reporter has made and the steps that were made, the oldest first
 pub record Played : Type 0 where
@@ -89,11 +88,7 @@ listed_for (Some d) n = listed_act d.device d.acts n
 abbrev pub listed : Played → ℕ → Option Act
 listed b r = listed_for (slice_get b.plan.reporters r) (acts_made r (state_of b))
 
--- an error that is reported has a priority below 4
-abbrev pub IsReport : Option Act → Type 0
-IsReport a = (report : Report) → a ≡ Some (act.Error report) → report.priority < 4
-
--- the listed acts of a plan are such
+-- the listed acts of a plan are reports
 abbrev pub AreListsReports : Plan → Type 0
 AreListsReports plan = AreReports (lists plan [])
 

@@ -1,5 +1,16 @@
-//! What a board's own run is, and the lemmas by which it goes on step by step. The board itself is still to come.
+//! A board that keeps its own run: its plan, the acts that its reporters have made, the steps that were made with their
+//! notes, and the copies that were published.
 //!
 //! Contracts see a board as what was played on it: its plan, the acts that its reporters have made and the steps that
 //! were made. All else that a board answers is that of the run of these steps.
 #![tactic(auto)]
+
+mod board;
+mod kept;
+mod log;
+mod looks;
+mod making;
+mod reporters;
+mod stepping;
+
+pub use board::Board;

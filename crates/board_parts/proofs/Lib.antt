@@ -1,4 +1,5 @@
 pub mod AtBanks
 pub mod AtHarts
 pub mod AtReporters
+pub mod MadeOf
 pub mod Searching

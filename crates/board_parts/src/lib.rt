@@ -6,6 +6,7 @@ mod banks;
 mod counting;
 mod harts;
 mod looks;
+mod making;
 mod outcome;
 mod parts;
 mod progress;

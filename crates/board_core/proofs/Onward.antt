@@ -1,0 +1,342 @@
+-- From what the steps of the parts say to what a board keeps.
+use Rattle.std.proofs.Common.{◌≡◌, ℕ, suc, ◌<◌, ◌≤◌, true, false, List, [], ◌∷◌, ◌++◌, map, length, get_or, set, slice_get, Option, Some, None, Bor, is_some, refl, sym, ap, ◌∙◌, subst, arith}
+use Rattle.std.specs.List.{HoldsAt}
+use Rattle.std.specs.Option.{MatchOption, option_copied, option_map}
+use Rattle.std.proofs.Math.Seq.{map-set_same}
+use Rattle.std.proofs.lemmas.List.{length-map, map-set}
+use Rattle.std.proofs.lemmas.Option.{get_or_from_slice_get, none-some, same_Some, slice_get-map, slice_get_read}
+use Rattle.ras_device.specs.declared.act.Act.{Act}
+use Rattle.ras_device.specs.declared.act.Act.TheVariants as act
+use Rattle.reri_fields.specs.declared.report.Report.{Report}
+use Rattle.reri_fields.specs.Drain.{BankState}
+use Rattle.sse_base.specs.Machine.{Machine}
+use Rattle.board_bank.specs.Standing.{BankParts, StandsFor}
+use Rattle.board_plan.specs.declared.notes.Step.{Step}
+use Rattle.board_plan.specs.declared.notes.Step.TheVariants.{Hart, Reporter}
+use Rattle.board_plan.specs.declared.notes.StepNote.{StepNote}
+use Rattle.board_plan.specs.declared.notes.StepNote.TheVariants as note
+use Rattle.board_plan.specs.declared.plan.BankDecl.{BankDecl}
+use Rattle.board_plan.specs.declared.plan.Plan.{Plan}
+use Rattle.board_plan.specs.declared.plan.Reporter as plan_reporter
+use Rattle.board_plan.specs.Plans.{IsPlan, most_steps}
+use Rattle.board_plan.specs.State.{BoardState, bank_plan, start_state}
+use Rattle.board_plan.specs.Step.{Stepped, hart_step, made_by, reporter_step}
+use Rattle.board_plan.specs.Run.{Noted, Ran, acts_from, ran, state_after, with_copy}
+use Rattle.board_parts.specs.declared.outcome.Outcome.{Outcome}
+use Rattle.board_parts.specs.declared.parts.Parts.{Parts}
+use Rattle.board_parts.specs.Came.{Steps, outcome_of}
+use Rattle.board_parts.specs.Shows.{Shows, limits}
+use Rattle.board_core.specs.declared.kept.Kept.{Kept}
+use Rattle.board_core.specs.declared.log.Log.{Log}
+use Rattle.board_core.specs.declared.board.Board.TheInside.{Inside}
+use Rattle.board_core.specs.Inside.{IsBoard, acts_in, played, rooms_in}
+use Rattle.board_core.specs.Played.{Played, AreListsReports, acts_of, after_act, after_reporter, fresh, is_list, listed, note_of, own_run, state_of, with_act, with_step}
+use Rattle.board_core.specs.Reached.{IsReached, Keeps}
+use Rattle.board_core.specs.Rooms.{HasRoom, HasSameRoom}
+use Rattle.board_core.proofs.Early.{hart_makes, reporter_makes}
+use Rattle.board_core.proofs.Keeping.{keeps_fresh, keeps_hart, keeps_reporter}
+use Rattle.board_core.proofs.Spent.{few_steps, reached_hart, reached_reporter}
+use Rattle.board_core.proofs.Steps.{hart_goes_on, reporter_goes_on}
+
+-- ---- The outcome of a step ----
+
+abbrev outcomes : Option Stepped → Option Outcome
+outcomes o = option_map (λ d. outcome_of d.note d.published) o
+
+pub record Came (o : Option Stepped) (c : Outcome) : Type 0 where
+  pub made : Stepped
+  pub is : o ≡ Some made
+  pub told : c ≡ outcome_of made.note made.published
+
+came : (o : Option Stepped) (c : Outcome) → Some c ≡ outcomes o → Came o c
+came None c is = absurd (none-some c (sym is))
+came (Some d) c is = record { made = d; is = refl; told = same_Some c (outcome_of d.note d.published) is }
+
+not_made : (o : Option Stepped) → None ≡ outcomes o → o ≡ None
+not_made None is = refl
+not_made (Some d) is = absurd (none-some (outcome_of d.note d.published) is)
+
+-- ---- A new board ----
+
+fresh_state : (plan : Plan) → state_of (fresh plan) ≡ start_state plan
+unfolding ran
+fresh_state plan = refl
+
+abbrev pub no_act : List Act
+no_act = []
+
+pub fresh_board : (y : Inside) (plan : Plan) → IsPlan plan → AreListsReports plan → y.plan ≡ plan
+    → Shows plan (start_state plan) y.parts → acts_in y.acts.items ≡ map (λ r. no_act) plan.reporters
+    → rooms_in y.acts.items ≡ limits plan → y.log.steps.items.items ≡ [] → y.log.notes.items.items ≡ []
+    → y.log.published.items.items ≡ [] → HasRoom (most_steps plan) y.log → IsBoard y
+fresh_board y plan is_plan reports same shows acts rooms steps notes published room =
+    let is : played y ≡ fresh plan = λ i. record { plan = same i; acts = acts i; steps = steps i } in
+    let from : Shows plan (state_of (fresh plan)) y.parts =
+    subst (λ (s : BoardState). Shows plan s y.parts) (sym (fresh_state plan)) shows in
+    record {
+      keeps = subst (λ (b : Played). Keeps b y.log.notes.items.items y.log.published.items.items) (sym is)
+          (subst (λ (ns : List StepNote). Keeps (fresh plan) ns y.log.published.items.items) (sym notes)
+          (subst (Keeps (fresh plan) []) (sym published) (keeps_fresh plan is_plan reports)));
+      shows = subst (λ (p : Plan). Shows p (state_of (played y)) y.parts) (sym same)
+          (subst (λ (b : Played). Shows plan (state_of b) y.parts) (sym is) from);
+      harts = ap (λ (m : Machine). m.events.harts) shows.machine ∙ ap (λ (p : Plan). p.harts) (sym same);
+      room = subst (λ n. HasRoom n y.log) (ap most_steps (sym same)) room;
+      room_for_acts = rooms ∙ ap limits (sym same);
+    }
+
+-- ---- No step ----
+
+pub idle_board : (x y : Inside) (o : Option Stepped) → IsBoard x → y.plan ≡ x.plan → y.acts ≡ x.acts → y.log ≡ x.log
+    → y.parts.firmware.events.harts ≡ x.parts.firmware.events.harts
+    → Steps x.plan (state_of (played x)) o y.parts None → IsBoard y
+idle_board x y o board plan acts log harts steps =
+    let none = not_made o steps.outcome in
+    let shows : Shows x.plan (state_of (played x)) y.parts =
+    subst (λ (q : Option Stepped). Shows x.plan (state_after (state_of (played x)) q) y.parts) none steps.shows in
+    let same : record x { parts = y.parts } ≡ y =
+    λ i. record { plan = sym plan i; parts = y.parts; acts = sym acts i; log = sym log i } in
+    subst IsBoard same (record {
+      keeps = board.keeps;
+      shows = shows;
+      harts = harts ∙ board.harts;
+      room = board.room;
+      room_for_acts = board.room_for_acts;
+    })
+
+-- ---- A step ----
+
+-- there is room for one step more
+pub record HasPlace (log : Log) : Type 0 where
+  pub steps : length log.steps.items.items < log.steps.room
+  pub notes : length log.notes.items.items < log.notes.room
+  pub published : length log.published.items.items < log.published.room
+
+one_more_fits : (x : Inside) (d : Stepped) → IsBoard x → d.state.steps ≡ suc (state_of (played x)).steps
+    → IsReached x.plan d.state → HasPlace x.log
+one_more_fits x d board number reached =
+    let keeps = board.keeps in
+    let few = few_steps x.plan d.state reached in
+    let ns = (own_run (played x)).notes in
+    let noted : length x.log.notes.items.items ≡ length x.log.steps.items.items =
+    ap length keeps.notes_are ∙ length-map ns (λ (n : Noted). n.note) ∙ sym (length-map ns (λ (n : Noted). n.by))
+    ∙ ap length keeps.played.all_made in
+    record {
+      steps = omega (arith, few, number, keeps.many, board.room.steps);
+      notes = omega (arith, few, number, keeps.many, board.room.notes, noted);
+      published = omega (arith, few, number, keeps.many, board.room.published, keeps.few_published);
+    }
+
+on_board : (x y : Inside) (b : Played) → IsBoard x → y.plan ≡ x.plan
+    → y.parts.firmware.events.harts ≡ x.parts.firmware.events.harts → played y ≡ b
+    → Keeps b y.log.notes.items.items y.log.published.items.items → Shows x.plan (state_of b) y.parts
+    → HasSameRoom x.log y.log → rooms_in y.acts.items ≡ rooms_in x.acts.items → IsBoard y
+on_board x y b board plan harts is keeps shows room rooms =
+    record {
+      keeps = subst (λ (c : Played). Keeps c y.log.notes.items.items y.log.published.items.items) (sym is) keeps;
+      shows = subst (λ (p : Plan). Shows p (state_of (played y)) y.parts) (sym plan)
+          (subst (λ (c : Played). Shows x.plan (state_of c) y.parts) (sym is) shows);
+      harts = harts ∙ board.harts ∙ ap (λ (p : Plan). p.harts) (sym plan);
+      room = record {
+        steps = room.steps ∙ board.room.steps ∙ ap most_steps (sym plan);
+        notes = room.notes ∙ board.room.notes ∙ ap most_steps (sym plan);
+        published = room.published ∙ board.room.published ∙ ap most_steps (sym plan);
+      };
+      room_for_acts = rooms ∙ board.room_for_acts ∙ ap limits (sym plan);
+    }
+
+-- what was added to the lists
+pub record IsLogged (x y : Log) (t : Step) (c : Outcome) : Type 0 where
+  pub steps : y.steps.items.items ≡ x.steps.items.items ++ t ∷ []
+  pub notes : y.notes.items.items ≡ x.notes.items.items ++ c.note ∷ []
+  pub published : y.published.items.items ≡ x.published.items.items ++ with_copy c.published []
+  pub room : HasSameRoom x y
+
+keeps_as : (x y : Log) (b : Played) (t : Step) (c : Outcome) (d : Stepped) → c ≡ outcome_of d.note d.published
+    → IsLogged x y t c
+    → Keeps b (x.notes.items.items ++ d.note ∷ []) (x.published.items.items ++ with_copy d.published [])
+    → Keeps b y.notes.items.items y.published.items.items
+keeps_as x y b t c d told logged keeps =
+    let notes : y.notes.items.items ≡ x.notes.items.items ++ d.note ∷ [] =
+    logged.notes ∙ ap (λ (o : Outcome). x.notes.items.items ++ o.note ∷ []) told in
+    let published : y.published.items.items ≡ x.published.items.items ++ with_copy d.published [] =
+    logged.published ∙ ap (λ (o : Outcome). x.published.items.items ++ with_copy o.published []) told in
+    subst (λ (ns : List StepNote). Keeps b ns y.published.items.items) (sym notes)
+    (subst (Keeps b (x.notes.items.items ++ d.note ∷ [])) (sym published) keeps)
+
+shows_made : (plan : Plan) (s : BoardState) (o : Option Stepped) (p : Parts) (c : Outcome) (d : Stepped)
+    → o ≡ Some d → Steps plan s o p (Some c) → Shows plan d.state p
+shows_made plan s o p c d is steps =
+    subst (λ (q : Option Stepped). Shows plan (state_after s q) p) is steps.shows
+
+-- ---- A hart's step ----
+
+abbrev HartCame : Inside → ℕ → Parts → Outcome → Type 0
+HartCame x h p c =
+    Steps x.plan (state_of (played x)) (hart_step h x.plan (state_of (played x))) p (Some c)
+
+pub hart_fits : (x : Inside) (h : ℕ) (p : Parts) (c : Outcome) → h < x.plan.harts → IsBoard x → HartCame x h p c
+    → HasPlace x.log
+hart_fits x h p c low board steps =
+    let s = state_of (played x) in
+    let d = came (hart_step h x.plan s) c steps.outcome in
+    one_more_fits x d.made board (hart_makes h x.plan s d.made d.is).number
+    (reached_hart h x.plan s d.made low board.keeps.reached d.is)
+
+pub hart_board : (x y : Inside) (h : ℕ) (c : Outcome) → h < x.plan.harts → IsBoard x → y.plan ≡ x.plan
+    → y.acts ≡ x.acts → y.parts.firmware.events.harts ≡ x.parts.firmware.events.harts → HartCame x h y.parts c
+    → IsLogged x.log y.log (Hart h) c → IsBoard y
+hart_board x y h c low board plan acts harts steps logged =
+    let s = state_of (played x) in
+    let d = came (hart_step h x.plan s) c steps.outcome in
+    let b = with_step (Hart h) (played x) in
+    let is : played y ≡ b =
+    λ i. record { plan = plan i; acts = acts_in (acts i).items; steps = logged.steps i } in
+    let goes = hart_goes_on h (played x) d.made d.is in
+    on_board x y b board plan harts is
+    (keeps_as x.log y.log b (Hart h) c d.made d.told logged
+    (keeps_hart h (played x) d.made x.log.notes.items.items x.log.published.items.items low board.keeps d.is))
+    (subst (λ (r : Ran). Shows x.plan r.state y.parts) (sym goes)
+    (shows_made x.plan s (hart_step h x.plan s) y.parts c d.made d.is steps))
+    logged.room (λ i. rooms_in (acts i).items)
+
+-- ---- A reporter's step ----
+
+abbrev ActCame : Inside → ℕ → Act → Parts → Outcome → Type 0
+ActCame x r a p c =
+    Steps x.plan (state_of (played x)) (reporter_step r x.plan (Some a) (state_of (played x))) p (Some c)
+
+pub act_fits : (x : Inside) (r : ℕ) (a : Act) (p : Parts) (c : Outcome) → IsBoard x → ActCame x r a p c
+    → HasPlace x.log
+act_fits x r a p c board steps =
+    let s = state_of (played x) in
+    let d = came (reporter_step r x.plan (Some a) s) c steps.outcome in
+    one_more_fits x d.made board (reporter_makes r x.plan s (Some a) d.made d.is).number
+    (reached_reporter r x.plan s (Some a) d.made board.keeps.reached d.is)
+
+-- the acts of a reporter, where they are kept
+acts_are : (x : Inside) (r : ℕ) (k : Kept Act) → r < length x.acts.items → k ≡ get_or x.acts.items r k
+    → acts_of (played x) r ≡ k.items.items
+acts_are x r k low read =
+    get_or_from_slice_get (acts_in x.acts.items) r k.items.items []
+    (slice_get-map (λ (j : Kept Act). j.items.items) x.acts.items r
+    ∙ ap (option_map (λ (j : Kept Act). j.items.items))
+    (slice_get_read x.acts.items (length x.acts.items) r k refl low read))
+
+acts_many : (x : Inside) → IsBoard x → length x.acts.items ≡ length x.plan.reporters
+acts_many x board =
+    sym (length-map x.acts.items (λ (j : Kept Act). j.items.items)) ∙ board.keeps.played.reporters
+
+pub act_has_place : (x : Inside) (r : ℕ) (a : Act) (p : Parts) (c : Outcome) (k : Kept Act)
+    → r < length x.plan.reporters → IsBoard x → ActCame x r a p c → k ≡ get_or x.acts.items r k
+    → length k.items.items < k.room
+act_has_place x r a p c k low board steps read =
+    let s = state_of (played x) in
+    let d = came (reporter_step r x.plan (Some a) s) c steps.outcome in
+    let makes = reporter_makes r x.plan s (Some a) d.made d.is in
+    let there : r < length x.acts.items = omega (arith, low, acts_many x board) in
+    let room : Some k.room ≡ Some makes.decl.limit =
+    sym (slice_get-map (λ (j : Kept Act). j.room) x.acts.items r
+    ∙ ap (option_map (λ (j : Kept Act). j.room))
+    (slice_get_read x.acts.items (length x.acts.items) r k refl there read))
+    ∙ ap (λ (ls : List ℕ). slice_get ls r) board.room_for_acts
+    ∙ slice_get-map (λ (q : plan_reporter.Reporter). q.limit) x.plan.reporters r
+    ∙ ap (option_map (λ (q : plan_reporter.Reporter). q.limit)) makes.declared in
+    let used : length k.items.items ≡ makes.was.made =
+    ap length (sym (acts_are x r k there read)) ∙ sym (board.keeps.played.used r) ∙ ap made_by makes.there in
+    omega (arith, used, same_Some k.room makes.decl.limit room, makes.allowed)
+
+-- one act more is kept
+pub record IsActed (x y : Inside) (r : ℕ) (a : Act) : Type 0 where
+  pub old : Kept Act
+  pub new : Kept Act
+  pub read : old ≡ get_or x.acts.items r old
+  pub items : new.items.items ≡ old.items.items ++ a ∷ []
+  pub room : new.room ≡ old.room
+  pub acts : y.acts.items ≡ set x.acts.items r new
+
+acted_is : (x y : Inside) (r : ℕ) (a : Act) → r < length x.acts.items → IsActed x y r a
+    → acts_in y.acts.items ≡ (with_act r a (played x)).acts
+acted_is x y r a low acted =
+    ap acts_in acted.acts
+    ∙ map-set (λ (j : Kept Act). j.items.items) x.acts.items r acted.new
+    ∙ ap (set (acts_in x.acts.items) r)
+    (acted.items ∙ ap (λ xs. xs ++ a ∷ []) (sym (acts_are x r acted.old low acted.read)))
+
+rooms_same : (x y : Inside) (r : ℕ) (a : Act) → IsActed x y r a → rooms_in y.acts.items ≡ rooms_in x.acts.items
+rooms_same x y r a acted =
+    ap rooms_in acted.acts
+    ∙ map-set_same (λ (j : Kept Act). j.room) x.acts.items r acted.new acted.old
+    (acted.room ∙ ap (λ (j : Kept Act). j.room) acted.read)
+
+pub act_is : (x y : Inside) (r : ℕ) (a : Act) (c : Outcome) → r < length x.plan.reporters → IsBoard x
+    → y.plan ≡ x.plan → IsActed x y r a → IsLogged x.log y.log (Reporter r) c
+    → played y ≡ with_step (Reporter r) (with_act r a (played x))
+act_is x y r a c low board plan acted logged =
+    let acts = acted_is x y r a (omega (arith, low, acts_many x board)) acted in
+    λ i. record { plan = plan i; acts = acts i; steps = logged.steps i }
+
+pub act_board : (x y : Inside) (r : ℕ) (a : Act) (c : Outcome) → r < length x.plan.reporters → IsBoard x
+    → y.plan ≡ x.plan → y.parts.firmware.events.harts ≡ x.parts.firmware.events.harts → ActCame x r a y.parts c
+    → (is_list x.plan r ≡ true → Some a ≡ listed (played x) r) → IsActed x y r a
+    → IsLogged x.log y.log (Reporter r) c → IsBoard y
+act_board x y r a c low board plan harts steps handed acted logged =
+    let s = state_of (played x) in
+    let d = came (reporter_step r x.plan (Some a) s) c steps.outcome in
+    let b = with_step (Reporter r) (with_act r a (played x)) in
+    let keeps = board.keeps in
+    let there : r < length (played x).acts = omega (arith, low, keeps.played.reporters) in
+    let goes = reporter_goes_on r a (played x) d.made there keeps.played.all_made (keeps.played.used r) d.is in
+    on_board x y b board plan harts (act_is x y r a c low board plan acted logged)
+    (keeps_as x.log y.log b (Reporter r) c d.made d.told logged
+    (keeps_reporter r a (played x) d.made x.log.notes.items.items x.log.published.items.items low keeps handed d.is))
+    (subst (λ (q : Ran). Shows x.plan q.state y.parts) (sym goes)
+    (shows_made x.plan s (reporter_step r x.plan (Some a) s) y.parts c d.made d.is steps))
+    logged.room (rooms_same x y r a acted)
+
+pub act_next : (x y : Inside) (r : ℕ) (a : Act) (c : Outcome) → ActCame x r a y.parts c
+    → played y ≡ with_step (Reporter r) (with_act r a (played x)) → played y ≡ after_reporter r (Some a) (played x)
+act_next x y r a c steps is =
+    let d = came (reporter_step r x.plan (Some a) (state_of (played x))) c steps.outcome in
+    is ∙ sym (ap (after_act r (played x) (Some a)) d.is)
+
+pub act_note : (x : Inside) (r : ℕ) (a : Act) (p : Parts) (c : Outcome) → ActCame x r a p c
+    → c.note ≡ note_of (reporter_step r x.plan (Some a) (state_of (played x)))
+act_note x r a p c steps =
+    let d = came (reporter_step r x.plan (Some a) (state_of (played x))) c steps.outcome in
+    ap (λ (o : Outcome). o.note) d.told ∙ sym (ap note_of d.is)
+
+pub no_act_idle : (r : ℕ) (plan : Plan) (s : BoardState) (a : Option Act) → a ≡ None
+    → note.Idle ≡ note_of (reporter_step r plan a s)
+unfolding reporter_step
+no_act_idle r plan s a is = sym (ap (λ b. note_of (reporter_step r plan b s)) is)
+
+-- ---- Looks ----
+
+pub bank_stands : (x : Inside) (now : Played) (bank : ℕ) (b : BankParts) → played x ≡ now → IsBoard x
+    → slice_get x.parts.banks.items bank ≡ Some b → (d : BankDecl) (s : BankState)
+    → slice_get now.plan.banks bank ≡ Some d → slice_get (state_of now).banks bank ≡ Some s
+    → StandsFor (bank_plan bank d now.plan.recs) s b
+bank_stands x now bank b is board here =
+    subst (λ (p : Played). (d : BankDecl) (s : BankState) → slice_get p.plan.banks bank ≡ Some d
+    → slice_get (state_of p).banks bank ≡ Some s → StandsFor (bank_plan bank d p.plan.recs) s b) is
+    (λ d s known there. board.shows.banks.each bank d s b known there here)
+
+-- an item that was looked up and copied
+pub copied_there : {X : Type 0} (xs : List X) (i : ℕ) (o : Option (Bor X)) (x : X) → option_copied o ≡ Some x
+    → MatchOption o (length xs ≤ i) (λ y. (i < length xs) × HoldsAt (λ z. y.now ≡ z) xs i) → slice_get xs i ≡ Some x
+copied_there xs i None x is looked = absurd (none-some x is)
+copied_there xs i (Some y) x is looked =
+    slice_get_read xs (length xs) i x refl looked.0 (sym (same_Some y.now x is) ∙ looked.1 x)
+
+-- the listed acts of a plan are reports
+pub listed_report : (plan : Plan) (r i : ℕ) (d : plan_reporter.Reporter) (report : Report) → AreListsReports plan
+    → slice_get plan.reporters r ≡ Some d → is_some d.device ≡ false
+    → slice_get d.acts i ≡ Some (act.Error report) → report.priority < 4
+listed_report plan r i d report reports there own is =
+    reports r i report (ap (λ (xs : List Act). slice_get xs i)
+    (ap (λ (o : Option plan_reporter.Reporter). acts_from [] o) there ∙ listed_own d.device d.acts own) ∙ is)
+  where
+    listed_own : (o : Option ℕ) (acts : List Act) → is_some o ≡ false
+        → acts_from [] (Some (record { device = o; limit = 0; acts = acts })) ≡ acts
+    listed_own None acts own = refl
+    listed_own (Some k) acts own = absurd (cc)

@@ -1,0 +1,118 @@
+-- A reporter's step is kept with its act, and where there is none all stays.
+use Rattle.std.proofs.Common.{◌≡◌, ◌<◌, true, Some, length, refl, sym, ap, ◌∙◌, subst, arith}
+use Rattle.std.specs.Vec.{with_item}
+use Rattle.board_plan.specs.Step.{reporter_step}
+use Rattle.board_core.specs.declared.board.Board.TheInside.{Inside}
+use Rattle.board_core.specs.Inside.{played}
+use Rattle.board_core.specs.Played.{Played, after_reporter, is_list, listed, note_of, state_of}
+use Rattle.board_core.proofs.Onward.{act_board, act_fits, act_has_place, act_is, act_next, act_note, idle_board, no_act_idle}
+use Rattle.board_core.proofs.board.Board.reporter_step.Goals as goal
+
+pub returns-in_default-clause-note : goal.returns-in_default-clause-note
+returns-in_default-clause-note c =
+    no_act_idle c.args.reporter c.args.self.now.plan (state_of c.args.self.now) c.args.act c.in_default.is
+
+pub invariant_of-self : goal.invariant_of-self
+invariant_of-self c =
+    let x = c.self.inside in
+    let s = state_of (played x) in
+    idle_board x _ (reporter_step c.args.reporter x.plan (Some c.in-Some.next) s) c.self.invariant refl refl refl
+    c.reporter_step.ensures.harts
+    (c.in_default-reporter_step.ensures.steps x.plan s c.self.invariant.shows c.self.invariant.keeps.reached.early)
+
+pub push-requires : goal.push-requires
+push-requires c =
+    let x = c.self.inside in
+    let low : c.args.reporter < length x.plan.reporters =
+    omega (arith, c.requires.there, ap (λ (b : Played). length b.plan.reporters) c.self.view_is) in
+    act_has_place x c.args.reporter c.in-Some.next c.reporter_step.new.self c.in-Some-reporter_step.outcome
+    c.index_mut.result.now low c.self.invariant
+    (c.in-Some-reporter_step.ensures.steps x.plan (state_of (played x)) c.self.invariant.shows
+    c.self.invariant.keeps.reached.early) c.index_mut.ensures.value
+
+pub keep-requires-clause-steps : goal.keep-requires-clause-steps
+keep-requires-clause-steps c =
+    let x = c.self.inside in
+    (act_fits x c.args.reporter c.in-Some.next c.reporter_step.new.self c.in-Some-reporter_step.outcome
+    c.self.invariant (c.in-Some-reporter_step.ensures.steps x.plan (state_of (played x)) c.self.invariant.shows
+    c.self.invariant.keeps.reached.early)).steps
+
+pub keep-requires-clause-notes : goal.keep-requires-clause-notes
+keep-requires-clause-notes c =
+    let x = c.self.inside in
+    (act_fits x c.args.reporter c.in-Some.next c.reporter_step.new.self c.in-Some-reporter_step.outcome
+    c.self.invariant (c.in-Some-reporter_step.ensures.steps x.plan (state_of (played x)) c.self.invariant.shows
+    c.self.invariant.keeps.reached.early)).notes
+
+pub keep-requires-clause-published : goal.keep-requires-clause-published
+keep-requires-clause-published c =
+    let x = c.self.inside in
+    (act_fits x c.args.reporter c.in-Some.next c.reporter_step.new.self c.in-Some-reporter_step.outcome
+    c.self.invariant (c.in-Some-reporter_step.ensures.steps x.plan (state_of (played x)) c.self.invariant.shows
+    c.self.invariant.keeps.reached.early)).published
+
+pub invariant_of-self-2 : goal.invariant_of-self-2
+invariant_of-self-2 c =
+    let x = c.self.inside in
+    let r = c.args.reporter in
+    let a = c.in-Some.next in
+    let low : r < length x.plan.reporters =
+    omega (arith, c.requires.there, ap (λ (b : Played). length b.plan.reporters) c.self.view_is) in
+    let handed : is_list x.plan r ≡ true → Some a ≡ listed (played x) r =
+    subst (λ (b : Played). is_list b.plan r ≡ true → Some a ≡ listed b r) (sym c.self.view_is)
+    (λ q. sym c.in-Some.is ∙ c.requires.list q) in
+    let kept = c.keep.ensures in
+    act_board x _ r a c.in-Some-reporter_step.outcome low c.self.invariant refl c.reporter_step.ensures.harts
+    (c.in-Some-reporter_step.ensures.steps x.plan (state_of (played x)) c.self.invariant.shows
+    c.self.invariant.keeps.reached.early) handed
+    (record {
+      old = c.index_mut.result.now;
+      new = c.push.new.self;
+      read = c.index_mut.ensures.value;
+      items = c.push.ensures.items;
+      room = c.push.ensures.room;
+      acts = refl;
+    })
+    (record { steps = kept.steps; notes = kept.notes; published = kept.published; room = kept.room })
+
+pub returns-clause-next : goal.returns-clause-next
+returns-clause-next c =
+    let x = c.self.inside in
+    let r = c.args.reporter in
+    let a = c.in-Some.next in
+    let low : r < length x.plan.reporters =
+    omega (arith, c.requires.there, ap (λ (b : Played). length b.plan.reporters) c.self.view_is) in
+    let kept = c.keep.ensures in
+    let y : Inside =
+    record {
+      plan = x.plan;
+      parts = c.reporter_step.new.self;
+      acts = with_item x.acts r c.push.new.self;
+      log = c.keep.new.self;
+    } in
+    let steps = c.in-Some-reporter_step.ensures.steps x.plan (state_of (played x)) c.self.invariant.shows
+    c.self.invariant.keeps.reached.early in
+    act_next x y r a c.in-Some-reporter_step.outcome steps
+    (act_is x y r a c.in-Some-reporter_step.outcome low c.self.invariant refl
+    (record {
+      old = c.index_mut.result.now;
+      new = c.push.new.self;
+      read = c.index_mut.ensures.value;
+      items = c.push.ensures.items;
+      room = c.push.ensures.room;
+      acts = refl;
+    })
+    (record { steps = kept.steps; notes = kept.notes; published = kept.published; room = kept.room }))
+    ∙ ap (after_reporter r (Some a)) c.self.view_is
+    ∙ ap (λ b. after_reporter r b c.args.self.now) (sym c.in-Some.is)
+
+pub returns-clause-note : goal.returns-clause-note
+returns-clause-note c =
+    let x = c.self.inside in
+    let r = c.args.reporter in
+    let a = c.in-Some.next in
+    let steps = c.in-Some-reporter_step.ensures.steps x.plan (state_of (played x)) c.self.invariant.shows
+    c.self.invariant.keeps.reached.early in
+    act_note x r a c.reporter_step.new.self c.in-Some-reporter_step.outcome steps
+    ∙ ap (λ (b : Played). note_of (reporter_step r b.plan (Some a) (state_of b))) c.self.view_is
+    ∙ ap (λ b. note_of (reporter_step r c.args.self.now.plan b (state_of c.args.self.now))) (sym c.in-Some.is)

@@ -1,0 +1,29 @@
+-- What a board keeps, and when it keeps it rightly (describes code). This project's own.
+use Rattle.std.specs.Prelude.{◌≡◌, ℕ, List, map}
+use Rattle.ras_device.specs.declared.act.Act.{Act}
+use Rattle.board_plan.specs.Plans.{most_steps}
+use Rattle.board_parts.specs.Shows.{Shows, limits}
+use Rattle.board_core.specs.declared.kept.Kept.{Kept}
+use Rattle.board_core.specs.declared.board.Board.TheInside.{Inside}
+use Rattle.board_core.specs.Played.{Played, state_of}
+use Rattle.board_core.specs.Reached.{Keeps}
+use Rattle.board_core.specs.Rooms.{HasRoom}
+
+-- the acts that each reporter has made, and room for how many there is
+abbrev pub acts_in : List (Kept Act) → List (List Act)
+acts_in kept = map (λ k. k.items.items) kept
+
+abbrev pub rooms_in : List (Kept Act) → List ℕ
+rooms_in kept = map (λ k. k.room) kept
+
+-- what was played on a board
+abbrev pub played : Inside → Played
+played b = record { plan = b.plan; acts = acts_in b.acts.items; steps = b.log.steps.items.items }
+
+-- the board keeps its run, its parts are those of the run's state, and there is room for all steps of its plan
+pub record IsBoard (b : Inside) : Type 0 where
+  pub keeps : Keeps (played b) b.log.notes.items.items b.log.published.items.items
+  pub shows : Shows b.plan (state_of (played b)) b.parts
+  pub harts : b.parts.firmware.events.harts ≡ b.plan.harts
+  pub room : HasRoom (most_steps b.plan) b.log
+  pub room_for_acts : rooms_in b.acts.items ≡ limits b.plan

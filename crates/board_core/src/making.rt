@@ -1,0 +1,80 @@
+//! How a board is made of its plan.
+
+ghost use Rattle.std.specs.Prelude.{◌≡◌, ◌≤◌, [], IfOk, map, sum_by};
+ghost use Rattle.board_plan.specs.Plans.{IsPlan, most_steps};
+ghost use Rattle.board_core.specs.Inside.{acts_in, rooms_in};
+ghost use Rattle.board_core.specs.Played.{AreListsReports, fresh};
+
+use crate::board::Board;
+use crate::kept::Kept;
+use crate::log::Log;
+use board_parts::Parts;
+use board_plan::{List, Plan, Reporter, Start};
+use ras_device::Act;
+use ras_io::NoMemory;
+use std::alloc::Global;
+
+/// How many steps all harts may make.
+fn all_budgets(starts: &[Start]) -> usize
+    requires { sum_by (λ s. s.budget) starts.now ≤ 160000 }
+    ensures { result ≡ sum_by (λ s. s.budget) starts.now }
+{
+    let mut total = 0;
+    for start in starts {
+        total += usize::from(start.budget);
+    }
+    total
+}
+
+/// How many acts all reporters may make.
+fn all_limits(reporters: &[Reporter]) -> usize
+    requires { sum_by (λ r. r.limit) reporters.now ≤ 160000 }
+    ensures { result ≡ sum_by (λ r. r.limit) reporters.now }
+{
+    let mut total = 0;
+    for reporter in reporters {
+        total += usize::from(reporter.limit);
+    }
+    total
+}
+
+/// How many steps a run of a plan has at most.
+fn most_steps(plan: &Plan) -> usize
+    requires { IsPlan plan.now }
+    ensures { result ≡ most_steps plan.now }
+{
+    all_budgets(plan.starts.as_slice()) + all_limits(plan.reporters.as_slice())
+}
+
+/// No acts of each reporter, with room for as many as it may make.
+fn no_acts(alloc: Global, reporters: &[Reporter]) -> Result<Vec<Kept<Act>>, NoMemory>
+    ensures acts { IfOk result (λ v. acts_in v.items ≡ map (λ r. []) reporters.now) }
+    ensures room { IfOk result (λ v. rooms_in v.items ≡ map (λ r. r.limit) reporters.now) }
+{
+    let mut acts = List::new(alloc);
+    for reporter in reporters {
+        acts.push(Kept::new(alloc, usize::from(reporter.limit))?)?;
+    }
+    Ok(acts.into_vec())
+}
+
+impl Board {
+    /// A board of a plan before its first step. It takes all memory that its steps need. `NoMemory` comes only where no
+    /// room was found for it.
+    pub fn new(alloc: Global, plan: &Plan) -> Result<Board, NoMemory>
+        requires plan { IsPlan plan.now }
+        requires reports { AreListsReports plan.now }
+        ensures { IfOk result (λ b. b ≡ fresh plan.now) }
+    {
+        let parts = Parts::new(alloc, plan)?;
+        let acts = no_acts(alloc, plan.reporters.as_slice())?;
+        let log = Log::new(alloc, most_steps(plan))?;
+        let plan = plan.copy(alloc)?;
+        Ok(Board {
+            plan,
+            parts,
+            acts,
+            log,
+        })
+    }
+}
