@@ -92,14 +92,14 @@ limits_low (r ∷ rs) f =
 
 -- ---- The whole ----
 
-records_few : (version : ℕ) → most_records version ≤ 63
+pub records_few : (version : ℕ) → most_records version ≤ 63
 records_few version = few (version == 1)
   where
     few : (b : Bool) → (if b then 16 else 63) ≤ 63
     few true = omega arith
     few false = omega arith
 
-harts_few : (version : ℕ) → most_harts version ≤ 32
+pub harts_few : (version : ℕ) → most_harts version ≤ 32
 harts_few version = few (version == 1)
   where
     few : (b : Bool) → (if b then 8 else 32) ≤ 32

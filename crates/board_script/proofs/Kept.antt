@@ -278,7 +278,7 @@ keeps_reporters h rs fit le f =
       next = f.next;
     }
 
-devices_more : (rs : List Reporter) (r : Reporter) → devices_of (rs ++ r ∷ []) ≡ devices_of rs ++ r.device ∷ []
+pub devices_more : (rs : List Reporter) (r : Reporter) → devices_of (rs ++ r ∷ []) ≡ devices_of rs ++ r.device ∷ []
 devices_more [] r = refl
 devices_more (s ∷ rs) r = ap (λ l. s.device ∷ l) (devices_more rs r)
 

@@ -6,3 +6,10 @@ pub mod Fits
 pub mod Taken
 pub mod Kept
 pub mod Boards
+pub mod Texts
+pub mod WordsAgain
+pub mod LinesAgain
+pub mod BanksAgain
+pub mod OpsAgain
+pub mod SourcesAgain
+pub mod Canonicals

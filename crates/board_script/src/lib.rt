@@ -11,8 +11,9 @@ mod reading;
 mod reporters;
 mod schedule;
 mod words;
+mod writing;
 
 pub use board_plan::LineFault;
 pub use fault::ScriptError;
 pub use reading::read;
-pub use script_write::{moved, write};
+pub use writing::{moved, write};
