@@ -121,7 +121,7 @@ impl Tally {
         }
     }
 
-    /// An invalidation cleared a record. On a board a Check has published what it showed.
+    /// An invalidation cleared a record: what it showed, if no Check has published that, stands no longer.
     fn add_cleared(&mut self, bank: u8, rec: u8)
         ensures { self.new ≡ with_cleared bank rec self.old }
     {
