@@ -4,7 +4,7 @@ ghost use Rattle.std.specs.Prelude.{◌≡◌, [], ◌∷◌, ◌++◌, List};
 ghost use Rattle.board_plan.specs.Plans.{IsPlan};
 ghost use Rattle.board_plan.specs.Run.{Noted};
 ghost use Rattle.board_plan.specs.Fates.{fates_of};
-ghost use Rattle.board_fates.specs.Counted.{mark_at, one_made, with_answer, with_mark, with_error, fallen, with_published, with_cleared, with_note};
+ghost use Rattle.board_fates.specs.Counted.{mark_at, more, one_made, with_answer, with_mark, with_error, fallen, with_published, with_cleared, with_note};
 ghost use Rattle.board_fates.specs.Tallied.{Tallies, IsNext};
 
 use board_plan::{Fates, Plan, Step, StepNote};
@@ -19,6 +19,13 @@ const MARKS: usize = 256;
 pub struct Tally {
     counts: Fates,
     marks: [bool; MARKS],
+}
+
+/// One more, as far as 32 bits go: a run makes far fewer steps.
+fn raise(count: &mut u32)
+    ensures { count.new ≡ more count.old }
+{
+    *count = count.saturating_add(1);
 }
 
 impl Tally {
@@ -82,7 +89,7 @@ impl Tally {
         ensures { self.new ≡ with_error bank rec logged self.old }
     {
         let mark = self.mark(bank, rec);
-        self.counts.made = self.counts.made.saturating_add(1);
+        raise(&mut self.counts.made);
         self.add_answer(logged, mark);
         if let Some(Logged::Wrote { .. }) = logged {
             self.set_mark(bank, rec, true);
@@ -93,16 +100,14 @@ impl Tally {
     fn add_answer(&mut self, logged: Option<Logged>, mark: bool)
         ensures { self.new ≡ record self.old { counts = with_answer logged mark self.old.counts } }
     {
+        let counts = &mut self.counts;
         match logged {
-            None => self.counts.stray = self.counts.stray.saturating_add(1),
-            Some(Logged::Disabled) => self.counts.disabled = self.counts.disabled.saturating_add(1),
-            Some(Logged::Counted) => self.counts.counted = self.counts.counted.saturating_add(1),
-            Some(Logged::Wrote { .. }) if mark => self.counts.overwritten = self
-                .counts
-                .overwritten
-                .saturating_add(1),
-            Some(Logged::Wrote { .. }) => self.counts.stands = self.counts.stands.saturating_add(1),
-            Some(Logged::Kept) => self.counts.kept = self.counts.kept.saturating_add(1),
+            None => raise(&mut counts.stray),
+            Some(Logged::Disabled) => raise(&mut counts.disabled),
+            Some(Logged::Counted) => raise(&mut counts.counted),
+            Some(Logged::Wrote { .. }) if mark => raise(&mut counts.overwritten),
+            Some(Logged::Wrote { .. }) => raise(&mut counts.stands),
+            Some(Logged::Kept) => raise(&mut counts.kept),
         }
     }
 
@@ -112,11 +117,11 @@ impl Tally {
     {
         if self.mark(bank, rec) {
             self.fall(bank, rec);
-            self.counts.drained = self.counts.drained.saturating_add(1);
+            raise(&mut self.counts.drained);
         }
     }
 
-    /// An invalidation cleared a record. On a board a Check has published what it showed.
+    /// An invalidation cleared a record: what it showed, if no Check has published that, stands no longer.
     fn add_cleared(&mut self, bank: u8, rec: u8)
         ensures { self.new ≡ with_cleared bank rec self.old }
     {
