@@ -157,7 +157,8 @@ gathers_again h before b n gs known small f below = at (has_gather h.plan.versio
         record {
           gathered = gs;
           below = lower;
-          makes = makes_none _ _ (ap (λ m. with_gathered h (before ++ gathering b m ∷ []) gs) (usual_is h.plan.version n known f.2 e));
+          makes = makes_none _ _ (ap (λ m. with_gathered h (before ++ gathering b m ∷ []) gs)
+              (usual_is h.plan.version n known f.2 e));
         }
 
 -- ---- All banks ----
@@ -203,7 +204,8 @@ banks_again (b ∷ bs) h before gs head few f below =
     let room : length before + suc (length bs) ≤ 4 = simp length-append at few in
     let longer = length-append before (b ∷ []) in
     let g = gathers_again h before b b.gather gs head.known (omega arith) f.0.gather below in
-    let rest = banks_again bs h (before ++ b ∷ []) g.gathered head (subst (λ l. length l ≤ 4) (sym (append_assoc before (b ∷ []) bs)) few) f.1
+    let rest = banks_again bs h (before ++ b ∷ []) g.gathered head
+    (subst (λ l. length l ≤ 4) (sym (append_assoc before (b ∷ []) bs)) few) f.1
     (subst (λ n. Each (λ m. m < n) g.gathered) (sym longer) g.below) in
     record {
       gathered = rest.gathered;

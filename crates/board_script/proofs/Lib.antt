@@ -1,4 +1,4 @@
--- Lemmas on the tables of a reader, and on what the plan of a script always is.
+-- Lemmas on the tables of a reader, on what the plan of a script always is, and on its canonical text.
 pub mod Tables
 pub mod Steps
 pub mod Chains

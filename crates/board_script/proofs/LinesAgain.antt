@@ -22,7 +22,12 @@ event_again : (h : Half) (e : EventDecl) → EventFits h.plan.events e
     → statement h (event_line e) ≡ Ok (with_events h (h.plan.events ++ e ∷ []))
 unfolding statement event_line with_event is
 event_again h e f =
-    rw (event_id_again e.id.0 f.small f.may, inject_again e.inject, f.fresh, lt-ltb (length h.plan.events) 8 f.room) refl
+    rw (
+      event_id_again e.id.0 f.small f.may,
+      inject_again e.inject,
+      f.fresh,
+      lt-ltb (length h.plan.events) 8 f.room,
+    ) refl
 
 event_is_line : (before : List EventDecl) (e : EventDecl) → EventFits before e → IsLine (event_line e)
 unfolding event_line

@@ -43,7 +43,12 @@ call_again : (eid fid : ℕ) (args : List ℕ) → IsU64 eid → IsU64 fid → A
     → call_of (decimal eid) (decimal fid) (map decimal args) ≡ Ok (Sbi eid fid args)
 unfolding call_of
 call_again eid fid args e f g =
-    rw (le-leb (length (map decimal args)) 5 (five args g), any_again eid e, any_again fid f, arguments_again args g) refl
+    rw (
+      le-leb (length (map decimal args)) 5 (five args g),
+      any_again eid e,
+      any_again fid f,
+      arguments_again args g,
+    ) refl
 
 op_of_again : (op : Op) → OpFits op → op_of_words (op_words op) ≡ Ok op
 unfolding op_of is bare_op sbi_op set_op load_op save_op store_op inc_op jump_op jlt_op ack_op unplug_op

@@ -79,7 +79,11 @@ unfolding statement act_line with_act with_error with_raise error_act is
 act_again h before acts (Error r) small f room =
     rw (known_again_list before acts small, error_again r f, one_act_again h before acts (Error r) room) refl
 act_again h before acts (Raise id hart) small f room =
-    rw (known_again_list before acts small, raise_again id hart f.0 f.1, one_act_again h before acts (Raise id hart) room)
+    rw (
+      known_again_list before acts small,
+      raise_again id hart f.0 f.1,
+      one_act_again h before acts (Raise id hart) room,
+    )
     refl
 
 act_plain : (a : Act) → ActFits a → ArePlain (act_words a)
@@ -87,28 +91,17 @@ act_plain (Error r) f =
     let bank = f.bank in
     let rec = f.rec in
     let priority = f.priority in
-    let code = f.code in (
-      refl,
-      (
-        plain_decimal r.bank (omega arith),
-        (
-          plain_decimal r.rec (omega arith),
-          (
-            severity_plain r.severity,
-            (
-              plain_decimal r.priority (omega arith),
-              (
-                plain_decimal r.code (omega arith),
-                (
-                  plain_decimal r.address f.address,
-                  (plain_decimal r.info f.info, (plain_decimal r.supplement f.supplement, (plain_decimal r.time f.time, tt))),
-                ),
-              ),
-            ),
-          ),
-        ),
-      ),
-    )
+    let code = f.code in
+    let values : ArePlain (decimal r.address ∷ decimal r.info ∷ decimal r.supplement ∷ decimal r.time ∷ []) = (
+      plain_decimal r.address f.address,
+      (plain_decimal r.info f.info, (plain_decimal r.supplement f.supplement, (plain_decimal r.time f.time, tt))),
+    ) in
+    let levels : ArePlain (severity_word r.severity ∷ decimal r.priority ∷ decimal r.code ∷ decimal r.address
+    ∷ decimal r.info ∷ decimal r.supplement ∷ decimal r.time ∷ []) = (
+      severity_plain r.severity,
+      (plain_decimal r.priority (omega arith), (plain_decimal r.code (omega arith), values)),
+    ) in
+    (refl, (plain_decimal r.bank (omega arith), (plain_decimal r.rec (omega arith), levels)))
 act_plain (Raise id hart) f =
     let low = f.0 in
     let low_hart = f.1 in
@@ -189,7 +182,8 @@ reporters_again (r ∷ rs) h f fresh few =
     let k = with_reporters h (before ++ r ∷ []) in
     let same = append_assoc before (r ∷ []) rs in
     makes_same h _ _ _ (ap (with_reporters h) same)
-    (makes_both h k _ (lines_of_reporter (length before) r.device r.limit r.acts) (reporter_lines (length before + 1) rs)
+    (makes_both h k _ (lines_of_reporter (length before) r.device r.limit r.acts)
+    (reporter_lines (length before + 1) rs)
     (source_again h r.device r.limit r.acts f.0 fresh.0 (omega arith))
     (subst (λ n. Makes k (reporter_lines n rs) (with_reporters k ((before ++ r ∷ []) ++ rs)))
     (length-append before (r ∷ []))
