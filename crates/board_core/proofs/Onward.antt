@@ -22,6 +22,9 @@ use Rattle.board_plan.specs.Plans.{IsPlan, most_steps}
 use Rattle.board_plan.specs.State.{BoardState, bank_plan, start_state}
 use Rattle.board_plan.specs.Step.{Stepped, hart_step, made_by, reporter_step}
 use Rattle.board_plan.specs.Run.{Noted, Ran, acts_from, ran, state_after, with_copy}
+use Rattle.board_fates.specs.declared.tally.Tally.{Tally}
+use Rattle.board_fates.specs.Tallied.{IsNext, Tallies}
+use Rattle.board_fates.proofs.Runs.{hart_is_next, reporter_is_next}
 use Rattle.board_parts.specs.declared.outcome.Outcome.{Outcome}
 use Rattle.board_parts.specs.declared.parts.Parts.{Parts}
 use Rattle.board_parts.specs.Came.{Steps, outcome_of}
@@ -34,6 +37,7 @@ use Rattle.board_core.specs.Played.{Played, AreListsReports, acts_of, after_act,
 use Rattle.board_core.specs.Reached.{IsReached, Keeps}
 use Rattle.board_core.specs.Rooms.{HasRoom, HasSameRoom}
 use Rattle.board_core.proofs.Early.{hart_makes, reporter_makes}
+use Rattle.board_core.proofs.Going.{gone_on}
 use Rattle.board_core.proofs.Keeping.{keeps_fresh, keeps_hart, keeps_reporter}
 use Rattle.board_core.proofs.Spent.{few_steps, reached_hart, reached_reporter}
 use Rattle.board_core.proofs.Steps.{hart_goes_on, reporter_goes_on}
@@ -62,15 +66,21 @@ fresh_state : (plan : Plan) → state_of (fresh plan) ≡ start_state plan
 unfolding ran
 fresh_state plan = refl
 
+fresh_notes : (plan : Plan) → (own_run (fresh plan)).notes ≡ []
+unfolding ran
+fresh_notes plan = refl
+
 abbrev pub no_act : List Act
 no_act = []
 
 pub fresh_board : (y : Inside) (plan : Plan) → IsPlan plan → AreListsReports plan → y.plan ≡ plan
     → Shows plan (start_state plan) y.parts → acts_in y.acts.items ≡ map (λ r. no_act) plan.reporters
     → rooms_in y.acts.items ≡ limits plan → y.log.steps.items.items ≡ [] → y.log.notes.items.items ≡ []
-    → y.log.published.items.items ≡ [] → HasRoom (most_steps plan) y.log → IsBoard y
-fresh_board y plan is_plan reports same shows acts rooms steps notes published room =
+    → y.log.published.items.items ≡ [] → HasRoom (most_steps plan) y.log → Tallies plan [] y.tally → IsBoard y
+fresh_board y plan is_plan reports same shows acts rooms steps notes published room tallies =
     let is : played y ≡ fresh plan = λ i. record { plan = same i; acts = acts i; steps = steps i } in
+    let counted : Tallies plan (own_run (fresh plan)).notes y.tally =
+    subst (λ ns. Tallies plan ns y.tally) (sym (fresh_notes plan)) tallies in
     let from : Shows plan (state_of (fresh plan)) y.parts =
     subst (λ (s : BoardState). Shows plan s y.parts) (sym (fresh_state plan)) shows in
     record {
@@ -79,6 +89,8 @@ fresh_board y plan is_plan reports same shows acts rooms steps notes published r
           (subst (Keeps (fresh plan) []) (sym published) (keeps_fresh plan is_plan reports)));
       shows = subst (λ (p : Plan). Shows p (state_of (played y)) y.parts) (sym same)
           (subst (λ (b : Played). Shows plan (state_of b) y.parts) (sym is) from);
+      tallies = subst (λ (p : Plan). Tallies p (own_run (played y)).notes y.tally) (sym same)
+          (subst (λ (b : Played). Tallies plan (own_run b).notes y.tally) (sym is) counted);
       harts = ap (λ (m : Machine). m.events.harts) shows.machine ∙ ap (λ (p : Plan). p.harts) (sym same);
       room = subst (λ n. HasRoom n y.log) (ap most_steps (sym same)) room;
       room_for_acts = rooms ∙ ap limits (sym same);
@@ -87,17 +99,18 @@ fresh_board y plan is_plan reports same shows acts rooms steps notes published r
 -- ---- No step ----
 
 pub idle_board : (x y : Inside) (o : Option Stepped) → IsBoard x → y.plan ≡ x.plan → y.acts ≡ x.acts → y.log ≡ x.log
-    → y.parts.firmware.events.harts ≡ x.parts.firmware.events.harts
+    → y.tally ≡ x.tally → y.parts.firmware.events.harts ≡ x.parts.firmware.events.harts
     → Steps x.plan (state_of (played x)) o y.parts None → IsBoard y
-idle_board x y o board plan acts log harts steps =
+idle_board x y o board plan acts log tally harts steps =
     let none = not_made o steps.outcome in
     let shows : Shows x.plan (state_of (played x)) y.parts =
     subst (λ (q : Option Stepped). Shows x.plan (state_after (state_of (played x)) q) y.parts) none steps.shows in
     let same : record x { parts = y.parts } ≡ y =
-    λ i. record { plan = sym plan i; parts = y.parts; acts = sym acts i; log = sym log i } in
+    λ i. record { plan = sym plan i; parts = y.parts; acts = sym acts i; log = sym log i; tally = sym tally i } in
     subst IsBoard same (record {
       keeps = board.keeps;
       shows = shows;
+      tallies = board.tallies;
       harts = harts ∙ board.harts;
       room = board.room;
       room_for_acts = board.room_for_acts;
@@ -129,12 +142,15 @@ one_more_fits x d board number reached =
 on_board : (x y : Inside) (b : Played) → IsBoard x → y.plan ≡ x.plan
     → y.parts.firmware.events.harts ≡ x.parts.firmware.events.harts → played y ≡ b
     → Keeps b y.log.notes.items.items y.log.published.items.items → Shows x.plan (state_of b) y.parts
-    → HasSameRoom x.log y.log → rooms_in y.acts.items ≡ rooms_in x.acts.items → IsBoard y
-on_board x y b board plan harts is keeps shows room rooms =
+    → Tallies x.plan (own_run b).notes y.tally → HasSameRoom x.log y.log
+    → rooms_in y.acts.items ≡ rooms_in x.acts.items → IsBoard y
+on_board x y b board plan harts is keeps shows tallies room rooms =
     record {
       keeps = subst (λ (c : Played). Keeps c y.log.notes.items.items y.log.published.items.items) (sym is) keeps;
       shows = subst (λ (p : Plan). Shows p (state_of (played y)) y.parts) (sym plan)
           (subst (λ (c : Played). Shows x.plan (state_of c) y.parts) (sym is) shows);
+      tallies = subst (λ (p : Plan). Tallies p (own_run (played y)).notes y.tally) (sym plan)
+          (subst (λ (c : Played). Tallies x.plan (own_run c).notes y.tally) (sym is) tallies);
       harts = harts ∙ board.harts ∙ ap (λ (p : Plan). p.harts) (sym plan);
       room = record {
         steps = room.steps ∙ board.room.steps ∙ ap most_steps (sym plan);
@@ -168,6 +184,30 @@ shows_made : (plan : Plan) (s : BoardState) (o : Option Stepped) (p : Parts) (c 
 shows_made plan s o p c d is steps =
     subst (λ (q : Option Stepped). Shows plan (state_after s q) p) is steps.shows
 
+-- a tally has counted a note, where the note comes next
+abbrev pub HasCounted : Tally → Tally → StepNote → Type 0
+HasCounted old new n =
+    (plan : Plan) (ns : List Noted) (by : Step) → Tallies plan ns old → IsNext plan ns n
+    → Tallies plan (ns ++ record { by = by; note = n } ∷ []) new
+
+few_notes : (x : Inside) → IsBoard x → length (own_run (played x)).notes ≤ 160000
+few_notes x board =
+    let played_is = board.keeps.played in
+    omega (
+      arith,
+      length-map (own_run (played x)).notes (λ (n : Noted). n.by),
+      ap length played_is.all_made,
+      played_is.few,
+      played_is.is_plan.few_steps,
+    )
+
+counts_on : (x : Inside) (t : Step) (c : Outcome) (d : Stepped) (new : Tally) → IsBoard x
+    → c ≡ outcome_of d.note d.published → HasCounted x.tally new c.note
+    → IsNext x.plan (own_run (played x)).notes d.note → Tallies x.plan (gone_on (own_run (played x)) t d).notes new
+counts_on x t c d new board told counts next =
+    subst (HasCounted x.tally new) (ap (λ (o : Outcome). o.note) told) counts x.plan (own_run (played x)).notes t
+    board.tallies next
+
 -- ---- A hart's step ----
 
 abbrev HartCame : Inside → ℕ → Parts → Outcome → Type 0
@@ -184,8 +224,8 @@ hart_fits x h p c low board steps =
 
 pub hart_board : (x y : Inside) (h : ℕ) (c : Outcome) → h < x.plan.harts → IsBoard x → y.plan ≡ x.plan
     → y.acts ≡ x.acts → y.parts.firmware.events.harts ≡ x.parts.firmware.events.harts → HartCame x h y.parts c
-    → IsLogged x.log y.log (Hart h) c → IsBoard y
-hart_board x y h c low board plan acts harts steps logged =
+    → IsLogged x.log y.log (Hart h) c → HasCounted x.tally y.tally c.note → IsBoard y
+hart_board x y h c low board plan acts harts steps logged counts =
     let s = state_of (played x) in
     let d = came (hart_step h x.plan s) c steps.outcome in
     let b = with_step (Hart h) (played x) in
@@ -197,6 +237,9 @@ hart_board x y h c low board plan acts harts steps logged =
     (keeps_hart h (played x) d.made x.log.notes.items.items x.log.published.items.items low board.keeps d.is))
     (subst (λ (r : Ran). Shows x.plan r.state y.parts) (sym goes)
     (shows_made x.plan s (hart_step h x.plan s) y.parts c d.made d.is steps))
+    (subst (λ (r : Ran). Tallies x.plan r.notes y.tally) (sym goes)
+    (counts_on x (Hart h) c d.made y.tally board d.told counts
+    (hart_is_next x.plan (acts_of (played x)) (played x).steps h d.made (few_notes x board) d.is)))
     logged.room (λ i. rooms_in (acts i).items)
 
 -- ---- A reporter's step ----
@@ -278,8 +321,8 @@ act_is x y r a c low board plan acted logged =
 pub act_board : (x y : Inside) (r : ℕ) (a : Act) (c : Outcome) → r < length x.plan.reporters → IsBoard x
     → y.plan ≡ x.plan → y.parts.firmware.events.harts ≡ x.parts.firmware.events.harts → ActCame x r a y.parts c
     → (is_list x.plan r ≡ true → Some a ≡ listed (played x) r) → IsActed x y r a
-    → IsLogged x.log y.log (Reporter r) c → IsBoard y
-act_board x y r a c low board plan harts steps handed acted logged =
+    → IsLogged x.log y.log (Reporter r) c → HasCounted x.tally y.tally c.note → IsBoard y
+act_board x y r a c low board plan harts steps handed acted logged counts =
     let s = state_of (played x) in
     let d = came (reporter_step r x.plan (Some a) s) c steps.outcome in
     let b = with_step (Reporter r) (with_act r a (played x)) in
@@ -291,6 +334,9 @@ act_board x y r a c low board plan harts steps handed acted logged =
     (keeps_reporter r a (played x) d.made x.log.notes.items.items x.log.published.items.items low keeps handed d.is))
     (subst (λ (q : Ran). Shows x.plan q.state y.parts) (sym goes)
     (shows_made x.plan s (reporter_step r x.plan (Some a) s) y.parts c d.made d.is steps))
+    (subst (λ (q : Ran). Tallies x.plan q.notes y.tally) (sym goes)
+    (counts_on x (Reporter r) c d.made y.tally board d.told counts
+    (reporter_is_next x.plan (acts_of (played x)) (played x).steps r (Some a) d.made (few_notes x board) d.is)))
     logged.room (rooms_same x y r a acted)
 
 pub act_next : (x y : Inside) (r : ℕ) (a : Act) (c : Outcome) → ActCame x r a y.parts c

@@ -2,6 +2,7 @@
 
 use crate::kept::Kept;
 use crate::log::Log;
+use board_fates::Tally;
 use board_parts::Parts;
 use board_plan::Plan;
 use ras_device::Act;
@@ -15,6 +16,7 @@ pub struct Board {
     pub(crate) parts: Parts,
     pub(crate) acts: Vec<Kept<Act>>,
     pub(crate) log: Log,
+    pub(crate) tally: Tally,
 }
 
 impl Model for Board {

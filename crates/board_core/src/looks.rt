@@ -5,12 +5,13 @@ ghost use Rattle.reri_fields.specs.Banks.{BankStands};
 ghost use Rattle.reri_fields.specs.Drain.{BankState};
 ghost use Rattle.board_plan.specs.declared.plan.BankDecl.{BankDecl};
 ghost use Rattle.board_plan.specs.State.{bank_plan, counts_of};
+ghost use Rattle.board_plan.specs.Fates.{fates_of};
 ghost use Rattle.board_parts.specs.Shows.{Shows};
 ghost use Rattle.board_core.specs.Played.{IsPlayed, own_run, state_of};
 
 use crate::board::Board;
 use board_parts::Parts;
-use board_plan::{Counts, Plan, Published, Step, StepNote};
+use board_plan::{Counts, Fates, Plan, Published, Step, StepNote};
 use ghes_block::Slot;
 use reri_bank::Bank;
 use reri_fields::Phase;
@@ -71,6 +72,13 @@ impl Board {
         ensures { result ≡ counts_of hart (state_of self.now) }
     {
         self.parts.counts(hart)
+    }
+
+    /// How many of the errors that were made have each fate.
+    pub fn fates(&self) -> Fates
+        ensures { result ≡ fates_of self.now.plan (own_run self.now).notes }
+    {
+        self.tally.fates()
     }
 
     /// The records of a bank: those that began as the plan says, and to which happened what the state says.

@@ -8,6 +8,7 @@ ghost use Rattle.board_core.specs.Played.{AreListsReports, fresh};
 use crate::board::Board;
 use crate::kept::Kept;
 use crate::log::Log;
+use board_fates::Tally;
 use board_parts::Parts;
 use board_plan::{List, Plan, Reporter, Start};
 use ras_device::Act;
@@ -75,6 +76,7 @@ impl Board {
             parts,
             acts,
             log,
+            tally: Tally::new(),
         })
     }
 }

@@ -20,6 +20,7 @@ impl Board {
             return StepNote::Idle;
         };
         self.log.keep(Step::Hart(hart), &outcome);
+        self.tally.count(&outcome.note);
         outcome.note
     }
 
@@ -41,6 +42,7 @@ impl Board {
         };
         self.acts[reporter as usize].push(next);
         self.log.keep(Step::Reporter(reporter), &outcome);
+        self.tally.count(&outcome.note);
         outcome.note
     }
 }

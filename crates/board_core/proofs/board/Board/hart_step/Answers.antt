@@ -10,7 +10,7 @@ pub invariant_of-self : goal.invariant_of-self
 invariant_of-self c =
     let x = c.self.inside in
     let s = state_of (played x) in
-    idle_board x _ (hart_step c.args.hart x.plan s) c.self.invariant refl refl refl c.hart_step.ensures.harts
+    idle_board x _ (hart_step c.args.hart x.plan s) c.self.invariant refl refl refl refl c.hart_step.ensures.harts
     (c.in_default.ensures.steps x.plan s c.self.invariant.shows)
 
 pub keep-requires-clause-steps : goal.keep-requires-clause-steps
@@ -45,4 +45,4 @@ invariant_of-self-2 c =
     let kept = c.keep.ensures in
     hart_board x _ c.args.hart c.in-Some.outcome low c.self.invariant refl refl c.hart_step.ensures.harts
     (c.in-Some.ensures.steps x.plan (state_of (played x)) c.self.invariant.shows)
-    (record { steps = kept.steps; notes = kept.notes; published = kept.published; room = kept.room })
+    (record { steps = kept.steps; notes = kept.notes; published = kept.published; room = kept.room }) c.count.ensures

@@ -12,3 +12,4 @@ invariant_of-result c =
     (c.in_ok-acts.ensures.room ∙ ap (map (λ (r : Reporter). r.limit)) c.as_slice.ensures)
     c.in_ok-log.ensures.steps c.in_ok-log.ensures.notes c.in_ok-log.ensures.published
     (subst (λ n. HasRoom n c.in_ok-log.log) c.most_steps.ensures c.in_ok-log.ensures.room)
+    (c.new-3.ensures c.args.plan.now c.requires.plan)

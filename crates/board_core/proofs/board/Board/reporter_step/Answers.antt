@@ -16,7 +16,7 @@ pub invariant_of-self : goal.invariant_of-self
 invariant_of-self c =
     let x = c.self.inside in
     let s = state_of (played x) in
-    idle_board x _ (reporter_step c.args.reporter x.plan (Some c.in-Some.next) s) c.self.invariant refl refl refl
+    idle_board x _ (reporter_step c.args.reporter x.plan (Some c.in-Some.next) s) c.self.invariant refl refl refl refl
     c.reporter_step.ensures.harts
     (c.in_default-reporter_step.ensures.steps x.plan s c.self.invariant.shows c.self.invariant.keeps.reached.early)
 
@@ -73,7 +73,7 @@ invariant_of-self-2 c =
       room = c.push.ensures.room;
       acts = refl;
     })
-    (record { steps = kept.steps; notes = kept.notes; published = kept.published; room = kept.room })
+    (record { steps = kept.steps; notes = kept.notes; published = kept.published; room = kept.room }) c.count.ensures
 
 pub returns-clause-next : goal.returns-clause-next
 returns-clause-next c =
@@ -89,6 +89,7 @@ returns-clause-next c =
       parts = c.reporter_step.new.self;
       acts = with_item x.acts r c.push.new.self;
       log = c.keep.new.self;
+      tally = c.count.new.self;
     } in
     let steps = c.in-Some-reporter_step.ensures.steps x.plan (state_of (played x)) c.self.invariant.shows
     c.self.invariant.keeps.reached.early in
