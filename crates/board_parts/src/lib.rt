@@ -12,6 +12,7 @@ mod parts;
 mod progress;
 mod reporters;
 mod signals;
+mod told;
 
 pub use outcome::Outcome;
 pub use parts::Parts;
