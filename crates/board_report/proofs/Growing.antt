@@ -1,5 +1,6 @@
 -- What some lines more leave of pages on their way to a sink.
 use Rattle.std.proofs.Common.{◌≡◌, ℕ, suc, List, [], ◌∷◌, ◌++◌, length, Ok, Err, Result, Option, refl, sym, ap, ◌∙◌, append_assoc, append-nil, length-append, subst, arith}
+use Rattle.std.specs.Result.{OnOk}
 use Rattle.std.specs.Io.KnownBytes.{Appends}
 use Rattle.std.proofs.KnownBytes.{Appends-trans, Appends-nil}
 use Rattle.ras_io.specs.Causes.{AppendsFront, Rose, one_more}
@@ -23,6 +24,12 @@ many-more n xs (y ∷ ys) =
       length-append xs ys,
     ) in
     ap one_more (many-more n xs ys) ∙ ap (λ (k : ℕ). many n k) longer
+
+-- as many writes under another name
+pub as-many : (o : Result (Unit {0}) SinkFault) (m n : ℕ) (xs ys : List (List ℕ)) → xs ≡ ys
+    → OnOk o (m ≡ many n (length xs)) → OnOk o (m ≡ many n (length ys))
+as-many (Ok u) m n xs ys e h = h ∙ ap (λ (ls : List (List ℕ)). many n (length ls)) e
+as-many (Err x) m n xs ys e h = tt
 
 -- how far pages are
 abbrev at : Option (List ℕ) → ℕ → ℕ → Result (Unit {0}) SinkFault → State

@@ -3,3 +3,6 @@ pub mod Growing
 pub mod LineParts
 pub mod LineTexts
 pub mod OneMore
+pub mod Shown
+pub mod Texts
+pub mod Words

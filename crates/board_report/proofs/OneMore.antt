@@ -1,17 +1,20 @@
 -- The lines of a report, one after another: each walk over a list with one more of its items.
-use Rattle.std.proofs.Common.{◌≡◌, ℕ, zero, suc, ◌+◌, ◌≤◌, get_or, ◌*◌, ◌<◌, ◌==◌, Bool, true, false, cond, List, [], ◌∷◌, ◌++◌, map, length, take, Some, Ok, Err, Result, Option, refl, sym, ap, ◌∙◌, subst, length-append, arith, slice_get}
+use Rattle.std.proofs.Common.{◌≡◌, ℕ, zero, suc, ◌+◌, ◌≤◌, get_or, ◌*◌, ◌<◌, ◌==◌, Bool, true, false, cond, List, [], ◌∷◌, ◌++◌, map, length, take, Some, Ok, Err, Result, Option, refl, sym, ap, ◌∙◌, append_assoc, append-nil, subst, length-append, arith, slice_get}
 use Rattle.std.proofs.lemmas.List.{take_all}
 use Rattle.std.specs.List.{range_with_len}
 use Rattle.sse_base.specs.declared.ids.Instance.{Instance}
-use Rattle.sse_base.specs.Contexts.{Frame, Triple, below}
+use Rattle.sse_base.specs.Contexts.{Frame, Stack, Triple, below}
 use Rattle.hart_ctx.specs.declared.regs.Saved.{Saved}
 use Rattle.hart_ctx.specs.Running.{told_by, running_in}
 use Rattle.sse_base.specs.declared.events.Slot.{Slot}
 use Rattle.reri_fields.specs.declared.report.RecordCopy.{RecordCopy}
+use Rattle.board_plan.specs.declared.notes.Counts.{Counts}
 use Rattle.board_plan.specs.declared.notes.Step.{Step}
 use Rattle.board_plan.specs.declared.notes.StepNote.{StepNote}
-use Rattle.board_plan.specs.Text.{frame_line, frame_lines, event_line, record_line, trace_line, word_line, word_lines}
-use Rattle.board_report.specs.Told.{told_line, told_lines, told_records, told_steps}
+use Rattle.board_plan.specs.declared.plan.BankDecl.{BankDecl}
+use Rattle.board_plan.specs.Text.{frame_line, frame_lines, lines_of_hart, hart_lines, event_line, record_line, trace_line, word_line, word_lines}
+use Rattle.board_bank.specs.Standing.{BankParts}
+use Rattle.board_report.specs.Told.{told_line, told_lines, told_records, told_bank_lines, told_banks, phase_of, told_steps}
 use Rattle.ras_io.specs.declared.faults.SinkFault.{SinkFault}
 use Rattle.board_report.specs.Writing.{State, Grows, Wrote}
 use Rattle.board_report.proofs.Growing.{grows-then}
@@ -97,6 +100,69 @@ records-next b n (suc k) m (x ∷ cs) copy i e =
 
 pub records-all : (b k : ℕ) (cs : List RecordCopy) → length cs ≤ k → told_records b 0 (take k cs) ≡ told_records b 0 cs
 records-all b k cs e = ap (told_records b 0) (take_all k cs e)
+
+-- ---- Harts ----
+
+-- one hart more
+pub harts-next : (n k m : ℕ) (cs : List Counts) (ms : List Bool) (ss : List Stack) (c : Counts) (b : Bool) (s : Stack)
+    → m ≡ n + k → slice_get cs k ≡ Some c → slice_get ms k ≡ Some b → slice_get ss k ≡ Some s
+    → hart_lines n (take (k + 1) cs) (take (k + 1) ms) (take (k + 1) ss)
+    ≡ hart_lines n (take k cs) (take k ms) (take k ss) ++ lines_of_hart m c b s
+harts-next n k m [] ms ss c b s i e f g = cc
+harts-next n k m (x ∷ cs) [] ss c b s i e f g = cc
+harts-next n k m (x ∷ cs) (y ∷ ms) [] c b s i e f g = cc
+harts-next n zero m (x ∷ cs) (y ∷ ms) (z ∷ ss) c b s i e f g =
+    let same_counts : x ≡ c = cc in
+    let same_mask : y ≡ b = cc in
+    let same_stack : z ≡ s = cc in
+    let place : n ≡ m = omega (arith, i) in
+    append-nil (lines_of_hart n x y z)
+    ∙ ap (λ (v : Counts). lines_of_hart n v y z) same_counts
+    ∙ ap (λ (v : Bool). lines_of_hart n c v z) same_mask
+    ∙ ap (λ (v : Stack). lines_of_hart n c b v) same_stack
+    ∙ ap (λ (j : ℕ). lines_of_hart j c b s) place
+harts-next n (suc k) m (x ∷ cs) (y ∷ ms) (z ∷ ss) c b s i e f g =
+    let next : suc k + 1 ≡ suc (k + 1) = omega arith in
+    rw next (ap (λ ls. lines_of_hart n x y z ++ ls) (harts-next (n + 1) k m cs ms ss c b s (omega (arith, i)) e f g)
+    ∙ sym (append_assoc (lines_of_hart n x y z) (hart_lines (n + 1) (take k cs) (take k ms) (take k ss))
+    (lines_of_hart m c b s)))
+
+pub harts-all : (k : ℕ) (cs : List Counts) (ms : List Bool) (ss : List Stack) → length cs ≤ k → length ms ≤ k
+    → length ss ≤ k → hart_lines 0 (take k cs) (take k ms) (take k ss) ≡ hart_lines 0 cs ms ss
+harts-all k cs ms ss e f g =
+    ap (λ (x : List Counts). hart_lines 0 x (take k ms) (take k ss)) (take_all k cs e)
+    ∙ ap (λ (x : List Bool). hart_lines 0 cs x (take k ss)) (take_all k ms f)
+    ∙ ap (λ (x : List Stack). hart_lines 0 cs ms x) (take_all k ss g)
+
+-- ---- Banks ----
+
+-- one bank more
+pub banks-next : (n k m : ℕ) (ds : List BankDecl) (bs : List BankParts) (d : BankDecl) (b : BankParts) → m ≡ n + k
+    → slice_get ds k ≡ Some d → slice_get bs k ≡ Some b
+    → told_banks n (take (k + 1) ds) (take (k + 1) bs)
+    ≡ told_banks n (take k ds) (take k bs) ++ told_bank_lines m d b.bank b.slot (phase_of b.drain)
+banks-next n k m [] bs d b i e f = cc
+banks-next n k m (x ∷ ds) [] d b i e f = cc
+banks-next n zero m (x ∷ ds) (y ∷ bs) d b i e f =
+    let same_decl : x ≡ d = cc in
+    let same_bank : y ≡ b = cc in
+    let place : n ≡ m = omega (arith, i) in
+    append-nil (told_bank_lines n x y.bank y.slot (phase_of y.drain))
+    ∙ ap (λ (v : BankDecl). told_bank_lines n v y.bank y.slot (phase_of y.drain)) same_decl
+    ∙ ap (λ (v : BankParts). told_bank_lines n d v.bank v.slot (phase_of v.drain)) same_bank
+    ∙ ap (λ (j : ℕ). told_bank_lines j d b.bank b.slot (phase_of b.drain)) place
+banks-next n (suc k) m (x ∷ ds) (y ∷ bs) d b i e f =
+    let next : suc k + 1 ≡ suc (k + 1) = omega arith in
+    let first = told_bank_lines n x y.bank y.slot (phase_of y.drain) in
+    rw next (ap (λ ls. first ++ ls) (banks-next (n + 1) k m ds bs d b (omega (arith, i)) e f)
+    ∙ sym (append_assoc first (told_banks (n + 1) (take k ds) (take k bs))
+    (told_bank_lines m d b.bank b.slot (phase_of b.drain))))
+
+pub banks-all : (k : ℕ) (ds : List BankDecl) (bs : List BankParts) → length ds ≤ k → length bs ≤ k
+    → told_banks 0 (take k ds) (take k bs) ≡ told_banks 0 ds bs
+banks-all k ds bs e f =
+    ap (λ (x : List BankDecl). told_banks 0 x (take k bs)) (take_all k ds e)
+    ∙ ap (λ (x : List BankParts). told_banks 0 ds x) (take_all k bs f)
 
 -- ---- Words ----
 

@@ -10,4 +10,4 @@ mod run_texts;
 mod walks;
 mod writes;
 
-pub use run_texts::{write_short, write_trace};
+pub use run_texts::{write_full, write_short, write_trace};

@@ -7,6 +7,7 @@ ghost use Rattle.sse_base.specs.Machine.{stack_of};
 ghost use Rattle.board_plan.specs.Text.{
   frame_lines,
   lines_of_hart,
+  hart_lines,
   event_line,
   bytes_of_entry,
   block_lines,
@@ -14,7 +15,16 @@ ghost use Rattle.board_plan.specs.Text.{
   entries_of_line,
   schedule_lines,
 };
-ghost use Rattle.board_report.specs.Told.{HaveTexts, told_bank_lines, told_records, told_steps};
+ghost use Rattle.board_report.specs.Told.{
+  AreWords,
+  EachAreWords,
+  HaveRecords,
+  HaveTexts,
+  told_bank_lines,
+  told_banks,
+  told_records,
+  told_steps,
+};
 ghost use Rattle.board_report.specs.Writing.{Adds, SamePages};
 
 use crate::pages::Pages;
@@ -22,6 +32,7 @@ use crate::writes::{
     write_bank, write_block, write_entries, write_event, write_frame, write_hart, write_registers,
     write_step, write_word,
 };
+use board_parts::Parts;
 use board_plan::{BankDecl, Counts, Step, StepNote};
 use ghes_block::Slot;
 use ras_io::Sink;
@@ -79,6 +90,21 @@ pub(crate) fn write_one_hart<K: Sink>(
     write_frames(pages, hart, firmware);
 }
 
+/// The harts.
+pub(crate) fn write_harts<K: Sink>(pages: &mut Pages<'_, K>, parts: &Parts)
+    requires { text_of pages.old.line ≡ [] }
+    ensures empty { text_of pages.new.line ≡ [] }
+    ensures wrote { Adds K.written K.faults K.writes pages.old pages.new
+        (hart_lines 0 parts.now.counts.items parts.now.firmware.masks parts.now.firmware.stacks) }
+    ensures same_pages { SamePages pages.new pages.old }
+{
+    let firmware = parts.firmware();
+    for hart in 0..firmware.harts() {
+        let masked = firmware.targets().is_masked(hart);
+        write_one_hart(pages, hart, &parts.counts(hart), masked, firmware);
+    }
+}
+
 /// The instances, in order.
 pub(crate) fn write_events<K: Sink>(pages: &mut Pages<'_, K>, table: &Table)
     requires { text_of pages.old.line ≡ [] }
@@ -97,6 +123,7 @@ pub(crate) fn write_records<K: Sink>(pages: &mut Pages<'_, K>, number: u8, bank:
     requires count { count ≡ length bank.now.copies }
     ensures empty { text_of pages.new.line ≡ [] }
     ensures wrote { Adds K.written K.faults K.writes pages.old pages.new (told_records number 0 bank.now.copies) }
+    ensures words { AreWords bank.now.copies }
     ensures same_pages { SamePages pages.new pages.old }
 {
     for rec in 0..count {
@@ -160,11 +187,31 @@ pub(crate) fn write_one_bank<K: Sink>(
     ensures empty { text_of pages.new.line ≡ [] }
     ensures wrote { Adds K.written K.faults K.writes pages.old pages.new
         (told_bank_lines number decl.now bank.now slot.now phase) }
+    ensures words { AreWords bank.now.copies }
     ensures same_pages { SamePages pages.new pages.old }
 {
     write_bank(pages, number, decl, bank.asks(), slot.copies(), phase);
     write_records(pages, number, bank, decl.recs);
     write_blocks(pages, number, slot);
+}
+
+/// The banks.
+pub(crate) fn write_banks<K: Sink>(pages: &mut Pages<'_, K>, parts: &Parts)
+    requires empty { text_of pages.old.line ≡ [] }
+    requires records { HaveRecords parts.now.decls.items parts.now.banks.items }
+    ensures empty { text_of pages.new.line ≡ [] }
+    ensures wrote { Adds K.written K.faults K.writes pages.old pages.new
+        (told_banks 0 parts.now.decls.items parts.now.banks.items) }
+    ensures words { EachAreWords parts.now.banks.items }
+    ensures same_pages { SamePages pages.new pages.old }
+{
+    for number in 0..parts.bank_count() {
+        let decl = parts.bank_decl(number);
+        let bank = parts.records(number);
+        let slot = parts.slot(number);
+        let phase = parts.phase(number);
+        write_one_bank(pages, number, decl, bank, slot, phase);
+    }
 }
 
 /// The words of memory that aren't 0.

@@ -1,6 +1,6 @@
 //! Each line of a report, written to its pages unless a write has failed before.
 
-ghost use Rattle.std.specs.Prelude.{◌≡◌, ◌≤◌, ◌<◌, ◌∷◌, [], length, IsTrue};
+ghost use Rattle.std.specs.Prelude.{◌≡◌, ◌≤◌, ◌<◌, ◌^◌, ◌∷◌, [], length, IsTrue};
 ghost use Rattle.ras_text.specs.Lines.{text_of};
 ghost use Rattle.sse_base.specs.Machine.{stack_of};
 ghost use Rattle.board_plan.specs.Notes.{has_text};
@@ -123,7 +123,14 @@ pub(crate) fn write_bank<K: Sink>(
     pages.end();
 }
 
-/// The registers of a record.
+/// The status of a record, a word.
+fn status_of(copy: &RecordCopy) -> u64
+    ensures { result ≡ copy.now.status }
+{
+    copy.status
+}
+
+/// The registers of a record, of which the status is a word whether or not the line goes out.
 pub(crate) fn write_registers<K: Sink>(
     pages: &mut Pages<'_, K>,
     bank: u8,
@@ -133,8 +140,10 @@ pub(crate) fn write_registers<K: Sink>(
     requires { text_of pages.old.line ≡ [] }
     ensures empty { text_of pages.new.line ≡ [] }
     ensures wrote { Adds K.written K.faults K.writes pages.old pages.new (record_line bank rec copy.now ∷ []) }
+    ensures word { copy.now.status < 2 ^ 64 }
     ensures same_pages { SamePages pages.new pages.old }
 {
+    let _status = status_of(copy);
     if let Err(_) = pages.outcome {
         return;
     }
