@@ -1,0 +1,2 @@
+-- Tries on a board, one after another.
+pub mod Trying

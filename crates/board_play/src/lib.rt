@@ -1,0 +1,7 @@
+//! Plays a plan on a board: its schedule where it has one, else rounds up to the first in which nobody made a step.
+#![tactic(auto)]
+
+mod rounds;
+mod tries;
+
+pub use rounds::play_plan;
