@@ -4,6 +4,7 @@ ghost use Rattle.std.specs.Prelude.{◌≡◌, ◌<◌, Some, length, map, optio
 ghost use Rattle.reri_fields.specs.Banks.{BankStands};
 ghost use Rattle.reri_fields.specs.Drain.{BankState};
 ghost use Rattle.board_plan.specs.declared.plan.BankDecl.{BankDecl};
+ghost use Rattle.board_plan.specs.Plans.{most_steps};
 ghost use Rattle.board_plan.specs.State.{bank_plan, counts_of};
 ghost use Rattle.board_plan.specs.Fates.{fates_of};
 ghost use Rattle.board_parts.specs.Shows.{Shows};
@@ -47,6 +48,13 @@ impl Board {
         ensures { result.now ≡ (own_run self.now).published }
     {
         self.log.published.items.as_slice()
+    }
+
+    /// How many steps the run can have: as many as the plan's budgets and limits allow.
+    pub fn places(&self) -> usize
+        ensures { result ≡ most_steps self.now.plan }
+    {
+        self.log.steps.room
     }
 
     // ---- The state ----

@@ -65,7 +65,7 @@ schedule h1 r0 h1 h1 h1 h1 h1 h1 h1 h1 h1 h1 h1 h1 h1 r1
 schedule h0
 ";
 
-fn written(alloc: Global, plan: &Plan) -> Result<Vec<u8>, Fail> {
+pub(crate) fn written(alloc: Global, plan: &Plan) -> Result<Vec<u8>, Fail> {
     let mut sink = MemSink::new(alloc, 4096, Vec::new(alloc))?;
     write(plan, &mut sink)?;
     Ok(Vec::from_slice(alloc, sink.bytes())?)
