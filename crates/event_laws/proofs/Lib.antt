@@ -2,3 +2,11 @@
 pub mod Calls
 pub mod Outcomes
 pub mod Runs
+pub mod Choosing
+pub mod Rising
+pub mod Changes
+pub mod Standing
+pub mod Beginning
+pub mod Prompt
+pub mod Following
+pub mod Framing
