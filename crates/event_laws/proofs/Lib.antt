@@ -10,3 +10,5 @@ pub mod Beginning
 pub mod Prompt
 pub mod Following
 pub mod Framing
+pub mod Lasting
+pub mod Depths

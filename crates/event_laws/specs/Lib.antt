@@ -1,0 +1,2 @@
+-- What more holds of the handlers of harts in every run.
+pub mod Depth
