@@ -12,3 +12,4 @@ pub mod Following
 pub mod Framing
 pub mod Lasting
 pub mod Depths
+pub mod Marks

@@ -8,6 +8,7 @@ ghost use Rattle.board_plan.specs.Plans.{IsPlan};
 ghost use Rattle.board_plan.specs.Run.{ran};
 ghost use Rattle.board_plan.specs.Sound.{EachChangeIsAnArrow, EachNestRises, EachRunsInItsFrame, EachStepIsPrompt};
 ghost use Rattle.event_laws.specs.Depth.{EachNestIsFew, EachStepLeavesOthers};
+ghost use Rattle.event_laws.specs.Pending.{EachMarkIsTold};
 
 /// In a step an event keeps its state or follows an arrow of the diagram of states, by the move that the step's note
 /// tells of (SBI 3.0, "Supervisor Software Events", event states).
@@ -45,4 +46,11 @@ pub fn each_nest_is_few()
 pub fn each_step_leaves_others()
     ensures { (plan : Plan) (acts : ℕ → List Act) (tries : List Step) → IsPlan plan
         → EachStepLeavesOthers plan acts (ran plan acts tries).state }
+{}
+
+/// An event of the board is pending exactly where a step since its last delivery signalled it: a drain's signal, an
+/// accepted inject or a raise (SBI 3.0, "Supervisor Software Events").
+pub fn each_mark_is_told()
+    ensures { (plan : Plan) (acts : ℕ → List Act) (tries : List Step) → IsPlan plan
+        → EachMarkIsTold plan (ran plan acts tries) }
 {}

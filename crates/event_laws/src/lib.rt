@@ -5,6 +5,6 @@
 mod laws;
 
 pub use laws::{
-    each_change_is_an_arrow, each_nest_is_few, each_nest_rises, each_runs_in_its_frame,
-    each_step_is_prompt, each_step_leaves_others,
+    each_change_is_an_arrow, each_mark_is_told, each_nest_is_few, each_nest_rises,
+    each_runs_in_its_frame, each_step_is_prompt, each_step_leaves_others,
 };
