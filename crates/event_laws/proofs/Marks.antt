@@ -50,7 +50,8 @@ marked at i b t marks on =
           let is : i ≡ at = same_is i at same in
           let low : place i t.instances < length t.marks =
           subst (λ (x : Instance). place x t.instances < length t.marks) (sym is) (omega (arith, on, marks)) in
-          rw same (ap (λ (x : Instance). get_or (set t.marks (place i t.instances) b) (place x t.instances) false) (sym is)
+          let new : List Bool = set t.marks (place i t.instances) b in
+          rw same (ap (λ (x : Instance). get_or new (place x t.instances) false) (sym is)
           ∙ get_or-set_same t.marks (place i t.instances) b false low)
       | inr other ↦
           rw other (get_or-set_other t.marks (place i t.instances) (place at t.instances) b false
@@ -96,91 +97,94 @@ or_cond false was = refl
 
 -- ---- A hart's step ----
 
-module _ (plan : Plan) (m : Machine) (h : ℕ) (x : Stack) (k : Keeps m) (at : Instance) (on : IsOnBoard at m.events) where
-  abbrev own : Reach
-  own = record { stack = x; events = m.events; masks = m.masks; memory = m.memory }
+module _
+    (plan : Plan) (m : Machine) (h : ℕ) (x : Stack) (k : Keeps m) (at : Instance) (on : IsOnBoard at m.events)
+  where
+    abbrev own : Reach
+    own = record { stack = x; events = m.events; masks = m.masks; memory = m.memory }
 
-  abbrev IsTold : Reach → StepNote → Type 0
-  IsTold q n =
-      is_pending at q.events ≡ pending_with plan at (record { by = Hart h; note = n }) (is_pending at m.events)
+    abbrev IsTold : Reach → StepNote → Type 0
+    IsTold q n =
+        is_pending at q.events ≡ pending_with plan at (record { by = Hart h; note = n }) (is_pending at m.events)
 
-  abbrev quiet : (n : StepNote) → delivered_by (Hart h) n ≡ None → signalled_by plan n ≡ None
-      → is_pending at m.events ≡ pending_with plan at (record { by = Hart h; note = n }) (is_pending at m.events)
-  quiet n no_delivery no_signal = quiet_note plan at (Hart h) n (is_pending at m.events) no_delivery no_signal
+    abbrev quiet : (n : StepNote) → delivered_by (Hart h) n ≡ None → signalled_by plan n ≡ None
+        → is_pending at m.events ≡ pending_with plan at (record { by = Hart h; note = n }) (is_pending at m.events)
+    quiet n no_delivery no_signal = quiet_note plan at (Hart h) n (is_pending at m.events) no_delivery no_signal
 
-  signals : (bank level : ℕ) (d : BankDecl) → slice_get plan.banks bank ≡ Some d → (o : Option ℕ)
-      → is_pending at (signal_event d.home m.events o)
-      ≡ pending_with plan at (record { by = Hart h; note = note.Signal bank level o }) (is_pending at m.events)
-  signals bank level d known None =
-      quiet (note.Signal bank level None) refl (ap (λ (b : Option BankDecl). at_home b None) known)
-  signals bank level d known (Some id) =
-      marked at (instance_of id d.home) true m.events k.marks on
-      ∙ or_cond (same_instance (instance_of id d.home) at) (is_pending at m.events)
-      ∙ sym (ap (λ (b : Option BankDecl). is_of at (at_home b (Some id)) || is_pending at m.events) known)
+    signals : (bank level : ℕ) (d : BankDecl) → slice_get plan.banks bank ≡ Some d → (o : Option ℕ)
+        → is_pending at (signal_event d.home m.events o)
+        ≡ pending_with plan at (record { by = Hart h; note = note.Signal bank level o }) (is_pending at m.events)
+    signals bank level d known None =
+        quiet (note.Signal bank level None) refl (ap (λ (b : Option BankDecl). at_home b None) known)
+    signals bank level d known (Some id) =
+        marked at (instance_of id d.home) true m.events k.marks on
+        ∙ or_cond (same_instance (instance_of id d.home) at) (is_pending at m.events)
+        ∙ sym (ap (λ (b : Option BankDecl). is_of at (at_home b (Some id)) || is_pending at m.events) known)
 
-  delivers : (new : Instance) → next_for h own ≡ Some new → IsTold (delivered h new own) (note.Deliver (id_of new).0)
-  delivers new next =
-      let t = m.events in
-      let b = chosen_begins h t m.masks m.stacks m.masks (top_urgency x.frames t) new k.kept next in
-      marked at new false t k.marks on
-      ∙ ap (λ (y : Instance). cond (same_instance y at) false (is_pending at t))
-      (sym (k.proper.meant h new b.on_board b.may_run))
+    delivers : (new : Instance) → next_for h own ≡ Some new → IsTold (delivered h new own) (note.Deliver (id_of new).0)
+    delivers new next =
+        let t = m.events in
+        let b = chosen_begins h t m.masks m.stacks m.masks (top_urgency x.frames t) new k.kept next in
+        marked at new false t k.marks on
+        ∙ ap (λ (y : Instance). cond (same_instance y at) false (is_pending at t))
+        (sym (k.proper.meant h new b.on_board b.may_run))
 
-  completes : (o : Option Instance) (r : Reach) → is_pending at (completed_at o r).events ≡ is_pending at r.events
-  completes None r = refl
-  completes (Some i) r = refl
+    completes : (o : Option Instance) (r : Reach) → is_pending at (completed_at o r).events ≡ is_pending at r.events
+    completes None r = refl
+    completes (Some i) r = refl
 
-  -- a call that injects nothing
-  quiet_call : (eid fid : ℕ) (args : List ℕ) (code : SbiCode) (written : List ℕ)
-      → (is_success code && is_inject (function_of fid)) ≡ false
-      → is_pending at m.events ≡ pending_with plan at (record { by = Hart h; note = note.Call eid fid args code written })
-      (is_pending at m.events)
-  quiet_call eid fid args code written no_inject =
-      quiet (note.Call eid fid args code written) refl
-      (ap (λ (b : Bool). cond b (Some (instance_of (argument_at args 0) (argument_at args 1))) None) no_inject)
+    -- a call that injects nothing
+    quiet_call : (eid fid : ℕ) (args : List ℕ) (code : SbiCode) (written : List ℕ)
+        → (is_success code && is_inject (function_of fid)) ≡ false
+        → is_pending at m.events
+        ≡ pending_with plan at (record { by = Hart h; note = note.Call eid fid args code written })
+        (is_pending at m.events)
+    quiet_call eid fid args code written no_inject =
+        quiet (note.Call eid fid args code written) refl
+        (ap (λ (b : Bool). cond b (Some (instance_of (argument_at args 0) (argument_at args 1))) None) no_inject)
 
-  calls : (r : Reach) (eid fid : ℕ) (args : List ℕ) (stacks : List Stack) → r.events ≡ m.events
-      → IsTold (call h eid fid args stacks r).reach
-      (note.Call eid fid args (call h eid fid args stacks r).code (call h eid fid args stacks r).written)
-  calls r eid fid args stacks same =
-      let was : is_pending at r.events ≡ is_pending at m.events = ap (is_pending at) same in
-      call_cases (λ (a : Answer). IsTold a.reach (note.Call eid fid args a.code a.written)) h eid fid args stacks r
-      (record {
-        refuses = λ code bad.
-            was ∙ quiet_call eid fid args code no_words (ap (λ (b : Bool). b && is_inject (function_of fid)) bad);
-        reads = λ memory is. was ∙ quiet_call eid fid args Success no_words (ap is_inject is);
-        writes = λ i base words here is named write. was
-            ∙ quiet_call eid fid args Success (padded words) (ap is_inject is);
-        makes_move = λ i mv state new named move is.
-            was ∙ quiet_call eid fid args Success no_words (moves_inject (function_of fid) mv move.of_call);
-        completes = λ here is.
-            completes (newest r.stack.frames) r ∙ was
-            ∙ quiet_call eid fid args Success no_words (ap is_inject is);
-        injects = λ i is named.
-            (let new = instance_of (argument_at args 0) (argument_at args 1) in
-            ap (λ (t : Events). is_pending at (signal new t)) same
-            ∙ marked at new true m.events k.marks on
-            ∙ or_cond (same_instance new at) (is_pending at m.events)
-            ∙ sym (ap (λ (f : Option Function). is_of at (cond (is_inject f) (Some new) None)
-            || is_pending at m.events) is));
-        unmasks = λ is. was ∙ quiet_call eid fid args Success no_words (ap is_inject is);
-        masks = λ is. was ∙ quiet_call eid fid args Success no_words (ap is_inject is);
-      })
+    calls : (r : Reach) (eid fid : ℕ) (args : List ℕ) (stacks : List Stack) → r.events ≡ m.events
+        → IsTold (call h eid fid args stacks r).reach
+        (note.Call eid fid args (call h eid fid args stacks r).code (call h eid fid args stacks r).written)
+    calls r eid fid args stacks same =
+        let was : is_pending at r.events ≡ is_pending at m.events = ap (is_pending at) same in
+        call_cases (λ (a : Answer). IsTold a.reach (note.Call eid fid args a.code a.written)) h eid fid args stacks r
+        (record {
+          refuses = λ code bad.
+              was ∙ quiet_call eid fid args code no_words (ap (λ (b : Bool). b && is_inject (function_of fid)) bad);
+          reads = λ memory is. was ∙ quiet_call eid fid args Success no_words (ap is_inject is);
+          writes = λ i base words here is named write. was
+              ∙ quiet_call eid fid args Success (padded words) (ap is_inject is);
+          makes_move = λ i mv state new named move is.
+              was ∙ quiet_call eid fid args Success no_words (moves_inject (function_of fid) mv move.of_call);
+          completes = λ here is.
+              completes (newest r.stack.frames) r ∙ was
+              ∙ quiet_call eid fid args Success no_words (ap is_inject is);
+          injects = λ i is named.
+              (let new = instance_of (argument_at args 0) (argument_at args 1) in
+              ap (λ (t : Events). is_pending at (signal new t)) same
+              ∙ marked at new true m.events k.marks on
+              ∙ or_cond (same_instance new at) (is_pending at m.events)
+              ∙ sym (ap (λ (f : Option Function). is_of at (cond (is_inject f) (Some new) None)
+              || is_pending at m.events) is));
+          unmasks = λ is. was ∙ quiet_call eid fid args Success no_words (ap is_inject is);
+          masks = λ is. was ∙ quiet_call eid fid args Success no_words (ap is_inject is);
+        })
 
-  tells : (stacks : List Stack) → StepCases h plan stacks own IsTold
-  tells stacks =
-      record {
-        drains = λ n is. quiet n (drains_deliver h n is) (drains_signal plan n is);
-        signals = λ bank level d known. signals bank level d known (event_signalled d m.events level);
-        delivers = delivers;
-        executes = λ none. record {
-          plain = λ n to memory is. quiet n (plain_deliver h n is) (plain_signal plan n is);
-          sets = λ reg value. refl;
-          loads = λ reg word. refl;
-          srets = refl;
-          calls = λ eid fid args. calls (past own) eid fid args stacks refl;
-        };
-      }
+    tells : (stacks : List Stack) → StepCases h plan stacks own IsTold
+    tells stacks =
+        record {
+          drains = λ n is. quiet n (drains_deliver h n is) (drains_signal plan n is);
+          signals = λ bank level d known. signals bank level d known (event_signalled d m.events level);
+          delivers = delivers;
+          executes = λ none. record {
+            plain = λ n to memory is. quiet n (plain_deliver h n is) (plain_signal plan n is);
+            sets = λ reg value. refl;
+            loads = λ reg word. refl;
+            srets = refl;
+            calls = λ eid fid args. calls (past own) eid fid args stacks refl;
+          };
+        }
 
 -- ---- Any step ----
 

@@ -1,5 +1,6 @@
--- When an event is pending, told from the notes of all steps alone. SBI 3.0, "Supervisor Software Events": an event that
--- is signalled is pending until it is delivered. Which notes signal it is this project's own. Nothing here reads a mark.
+-- When an event is pending, told from the notes of all steps alone. SBI 3.0, "Supervisor Software Events": an event
+-- that is signalled is pending until it is delivered. Which notes signal it is this project's own. Nothing here reads a
+-- mark.
 use Rattle.std.specs.Prelude.{◌≡◌, ℕ, ◌&&◌, ◌||◌, Bool, true, false, if◌then◌else◌, List, [], ◌∷◌, slice_get, slice_index, Option, Some, None}
 use Rattle.sse_base.specs.declared.functions.Function.{Function}
 use Rattle.sse_base.specs.declared.functions.Function.TheVariants as functions

@@ -36,7 +36,7 @@ pub fn each_step_is_prompt()
         → EachStepIsPrompt plan acts (ran plan acts tries).state }
 {}
 
-/// A hart runs at most one handler of each event, so never more than its plan has events.
+/// A hart never runs more handlers than its plan has events.
 pub fn each_nest_is_few()
     ensures { (plan : Plan) (acts : ℕ → List Act) (tries : List Step) → IsPlan plan
         → EachNestIsFew plan (ran plan acts tries).state }

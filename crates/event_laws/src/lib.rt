@@ -1,5 +1,5 @@
-//! What holds of events and their handlers in every run of every board. Each law is a public function without a body
-//! that promises it, and stands on the book of boards alone, on no line of code.
+//! What holds of events and their handlers in every run of every board. Each law is a public function with an empty
+//! body whose contract says it. The laws speak of the books of events and boards, and of no code.
 #![tactic(auto)]
 
 mod laws;
