@@ -1,0 +1,2 @@
+-- Why a completion restores what the notes tell.
+pub mod Depths
