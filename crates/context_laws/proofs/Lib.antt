@@ -1,2 +1,5 @@
 -- Why a completion restores what the notes tell.
 pub mod Depths
+pub mod Amending
+pub mod Ops
+pub mod Writing
