@@ -3,3 +3,4 @@ pub mod Depths
 pub mod Amending
 pub mod Ops
 pub mod Writing
+pub mod Memory
