@@ -4,3 +4,4 @@ pub mod Amending
 pub mod Ops
 pub mod Writing
 pub mod Memory
+pub mod Turns
