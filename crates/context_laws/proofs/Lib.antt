@@ -5,3 +5,4 @@ pub mod Ops
 pub mod Writing
 pub mod Memory
 pub mod Turns
+pub mod Told

@@ -152,7 +152,7 @@ module _ (h : ℕ) (r : Reach) (tidy : AreTidy h r.stack.frames) (size : length 
       }
 
   -- any step of the hart, where what is delivered is the instance that its id means there
-  hart_tells : (plan : Plan) (stacks : List Stack)
+  pub hart_tells : (plan : Plan) (stacks : List Stack)
       → ((at : Instance) → next_for h r ≡ Some at → instance_of (id_of at).0 h ≡ at) → StepCases h plan stacks r
       (λ (q : Reach) (n : StepNote). Tells h n r.stack q.stack)
   hart_tells plan stacks means =
