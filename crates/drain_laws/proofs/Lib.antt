@@ -1,0 +1,2 @@
+pub mod BankMoves
+pub mod BoardMoves
