@@ -1,2 +1,5 @@
 pub mod BankMoves
 pub mod BoardMoves
+pub mod Runs
+pub mod Held
+pub mod Asked
