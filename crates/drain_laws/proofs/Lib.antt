@@ -6,3 +6,5 @@ pub mod Asked
 pub mod Found
 pub mod Past
 pub mod Copies
+pub mod BankSound
+pub mod BankSteps
