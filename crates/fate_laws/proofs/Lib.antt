@@ -1,3 +1,4 @@
 pub mod Orderly
 pub mod Made
 pub mod OneFate
+pub mod Published
