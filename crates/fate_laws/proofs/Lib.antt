@@ -2,3 +2,5 @@ pub mod Orderly
 pub mod Made
 pub mod OneFate
 pub mod Published
+pub mod Tries
+pub mod Stages
