@@ -4,3 +4,5 @@ pub mod OneFate
 pub mod Published
 pub mod Tries
 pub mod Stages
+pub mod Publications
+pub mod Laws

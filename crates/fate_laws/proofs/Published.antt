@@ -49,7 +49,7 @@ shown_error origin deeds n h = go (shown (since origin (told deeds))) refl h
 -- ---- News that publish nothing ----
 
 -- a deed that is no Check that published
-abbrev is_no_publication : News → Bool
+abbrev pub is_no_publication : News → Bool
 is_no_publication (Checks b r true) = false
 is_no_publication news = true
 
@@ -139,17 +139,17 @@ check_here origin bank rec k b r deeds n here =
     ap (λ c. is_drained origin (with_deed (cond c (Some (Checked true)) None) deeds) n) here
 
 -- the numbers of a record
-record IsSame (bank rec b r : ℕ) : Type 0 where
-  bank_is : b ≡ bank
-  rec_is : r ≡ rec
+pub record IsSame (bank rec b r : ℕ) : Type 0 where
+  pub bank_is : b ≡ bank
+  pub rec_is : r ≡ rec
 
-same_record : (bank rec b r : ℕ) → is_at bank rec b r ≡ true → IsSame bank rec b r
+pub same_record : (bank rec b r : ℕ) → is_at bank rec b r ≡ true → IsSame bank rec b r
 same_record bank rec b r here =
     let parts = and_parts (b == bank) (r == rec) here in
     record { bank_is = eqb-true b bank parts.0; rec_is = eqb-true r rec parts.1 }
 
 -- it changes nothing for an error that its record doesn't show
-check_still : (plan : Plan) (b r : ℕ) (ns : List News) (e : Error)
+pub check_still : (plan : Plan) (b r : ℕ) (ns : List News) (e : Error)
     → shows_at (deeds_of b r ns) e.step (origin_at plan b r) ≡ false
     → has_fate plan (Checks b r true ∷ ns) Drained e ≡ has_fate plan ns Drained e
 check_still plan b r ns e off =
