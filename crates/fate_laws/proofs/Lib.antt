@@ -5,4 +5,4 @@ pub mod Published
 pub mod Tries
 pub mod Stages
 pub mod Publications
-pub mod Laws
+pub mod Closing
