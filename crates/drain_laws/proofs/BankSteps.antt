@@ -1,0 +1,1 @@
+-- Each step of a bank keeps it sound.

@@ -1,0 +1,2 @@
+-- How the numbers of errors by their fates add up.
+pub mod Sums
