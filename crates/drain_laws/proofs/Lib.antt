@@ -8,3 +8,5 @@ pub mod Past
 pub mod Copies
 pub mod BankSound
 pub mod BankSteps
+pub mod Turns
+pub mod BoardSound
