@@ -10,3 +10,6 @@ pub mod BankSound
 pub mod BankSteps
 pub mod Turns
 pub mod BoardSound
+pub mod Showing
+pub mod DueBanks
+pub mod Homes
