@@ -8,3 +8,8 @@ pub mod Past
 pub mod Copies
 pub mod BankSound
 pub mod BankSteps
+pub mod Turns
+pub mod BoardSound
+pub mod Showing
+pub mod DueBanks
+pub mod Homes

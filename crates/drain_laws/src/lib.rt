@@ -1,3 +1,38 @@
 //! What holds of the banks of every board in every run: of their records, their drains, their slots and their claims.
 //! There is no code here, only laws of the board book, each as the contract of a function that does nothing.
 #![tactic(auto)]
+
+ghost use Rattle.std.specs.Prelude.{ℕ, List};
+ghost use Rattle.ras_device.specs.declared.act.Act.{Act};
+ghost use Rattle.board_plan.specs.declared.notes.Step.{Step};
+ghost use Rattle.board_plan.specs.declared.plan.Plan.{Plan};
+ghost use Rattle.board_plan.specs.Plans.{IsPlan};
+ghost use Rattle.board_plan.specs.Run.{ran};
+ghost use Rattle.board_plan.specs.Sound.{EachCopyIsOfItsRecord, EachDrainIsSound, EachShownPublishedIsUnderInvalidate, EachSignalledAsks};
+
+/// A bank with a signalled record asks for a drain, whatever came in between.
+pub fn each_signalled_asks()
+    ensures { (plan : Plan) (acts : ℕ → List Act) (tries : List Step) → IsPlan plan → EachSignalledAsks plan (ran plan acts tries).state }
+{
+}
+
+/// Each drain is sound. Its record stays valid from the Scan that finds it up to its invalidation; its slot holds the
+/// newest of its own copies; it gathers no more than its bank may; its level is the greatest of theirs. Only the bank's
+/// home makes its steps, and has no other drain under way. The slot was free when it began.
+pub fn each_drain_is_sound()
+    ensures { (plan : Plan) (acts : ℕ → List Act) (tries : List Step) → IsPlan plan → EachDrainIsSound plan acts (ran plan acts tries).state }
+{
+}
+
+/// Each copy that a step publishes is of a claimed record's six registers as they are then.
+pub fn each_copy_is_of_its_record()
+    ensures { (plan : Plan) (acts : ℕ → List Act) (tries : List Step) → IsPlan plan → EachCopyIsOfItsRecord plan acts (ran plan acts tries).state }
+{
+}
+
+/// A record that shows an error of which a copy was published is about to be invalidated: the copy is its bank's newest,
+/// no error has written the record since, and the drain's next phase is the invalidation.
+pub fn each_shown_published_is_under_invalidate()
+    ensures { (plan : Plan) (acts : ℕ → List Act) (tries : List Step) → IsPlan plan → EachShownPublishedIsUnderInvalidate plan (ran plan acts tries).state }
+{
+}
