@@ -3,8 +3,10 @@ use Rattle.std.proofs.Common.{◌≡◌, ◌≢◌, ℕ, zero, suc, ◌+◌, ◌
 use Rattle.std.proofs.Math.Seq.{take-suc}
 use Rattle.std.proofs.lemmas.Bool.{cases_eq}
 use Rattle.std.proofs.lemmas.List.{length-map, length-set, map_push, get_or-set_same, get_or-set_other}
-use Rattle.std.proofs.lemmas.Option.{get_or_from_slice_get, slice_get_within}
+use Rattle.std.proofs.lemmas.Option.{get_or_from_slice_get, none-some, slice_get_within}
+use Rattle.reri_fields.specs.declared.report.Report.{Report}
 use Rattle.ras_device.specs.declared.act.Act.{Act}
+use Rattle.ras_device.specs.declared.act.Act.TheVariants as act
 use Rattle.reri_bank.proofs.Stands.{get-set_same, get-set_other}
 use Rattle.board_plan.specs.declared.notes.Published.{Published}
 use Rattle.board_plan.specs.declared.notes.Step.{Step}
@@ -12,11 +14,11 @@ use Rattle.board_plan.specs.declared.notes.Step.TheVariants.{Hart, Reporter}
 use Rattle.board_plan.specs.declared.notes.StepNote.{StepNote}
 use Rattle.board_plan.specs.declared.plan.Plan.{Plan}
 use Rattle.board_plan.specs.declared.plan.Reporter as plan_reporter
-use Rattle.board_plan.specs.Plans.{IsPlan, most_steps}
+use Rattle.board_plan.specs.Plans.{IsPlan, AreReports, most_steps}
 use Rattle.board_plan.specs.State.{BoardState, ReporterState, fresh_reporter}
 use Rattle.board_plan.specs.Step.{Stepped, acts_made, hart_step, made_by, one_more, reporter_step}
 use Rattle.board_plan.specs.Run.{Noted, Ran, ran, steps_of, with_copy}
-use Rattle.board_core.specs.Played.{IsPlayed, Played, AreListsReports, acts_of, fresh, has_list, is_list, listed, listed_act, listed_for, own_run, state_of, with_act, with_step}
+use Rattle.board_core.specs.Played.{IsPlayed, IsReport, Played, AreListsReports, acts_of, fresh, has_list, is_list, listed, listed_act, listed_for, own_run, state_of, with_act, with_step}
 use Rattle.board_core.specs.Reached.{IsReached, Keeps}
 use Rattle.board_core.proofs.Early.{ReporterStep, hart_makes, made_each, reporter_makes}
 use Rattle.board_core.proofs.Going.{gone_on}
@@ -48,6 +50,14 @@ no_acts [] r = refl
 no_acts (x ∷ rs) zero = refl
 no_acts (x ∷ rs) (suc r) = no_acts rs r
 
+none_reported : (plan : Plan) → AreReports (acts_of (fresh plan))
+none_reported plan r i report is =
+    absurd (none-some (act.Error report) (nothing i
+    (subst (λ (xs : List Act). slice_get xs i ≡ Some (act.Error report)) (no_acts plan.reporters r) is)))
+  where
+    nothing : (i : ℕ) → slice_get no_act i ≡ Some (act.Error report) → None ≡ Some (act.Error report)
+    nothing i is = is
+
 -- ---- The start ----
 
 pub keeps_fresh : (plan : Plan) → IsPlan plan → AreListsReports plan → Keeps (fresh plan) [] []
@@ -61,6 +71,7 @@ keeps_fresh plan is_plan reports =
         few = omega arith;
         used = λ r. none_made plan.reporters r ∙ sym (ap length (no_acts plan.reporters r));
         listed = λ r d declared is. nothing (acts_of (fresh plan) r) d (no_acts plan.reporters r);
+        reports = none_reported plan;
       };
       reached = reached_start plan;
       many = refl;
@@ -93,8 +104,8 @@ keeps_on : (b c : Played) (t : Step) (d : Stepped) (notes : List StepNote) (publ
     → length c.acts ≡ length b.acts → ((r : ℕ) → acts_made r d.state ≡ length (acts_of c r))
     → ((r : ℕ) (p : plan_reporter.Reporter) → slice_get b.plan.reporters r ≡ Some p → is_none p.device ≡ true
     → acts_of c r ≡ take (length (acts_of c r)) p.acts)
-    → Keeps c (notes ++ d.note ∷ []) (published ++ with_copy d.published [])
-keeps_on b c t d notes published keeps goes number reached acts used lists =
+    → AreReports (acts_of c) → Keeps c (notes ++ d.note ∷ []) (published ++ with_copy d.published [])
+keeps_on b c t d notes published keeps goes number reached acts used lists reports =
     let plan_is = goes.plan in
     let state = state_is b c t d goes in
     let many : (state_of c).steps ≡ length c.steps =
@@ -118,6 +129,7 @@ keeps_on b c t d notes published keeps goes number reached acts used lists =
         );
         used = λ r. ap (acts_made r) state ∙ used r;
         listed = λ r p there is. lists r p (ap (λ (q : Plan). slice_get q.reporters r) (sym plan_is) ∙ there) is;
+        reports = reports;
       };
       reached = subst (λ (p : Plan). IsReached p (state_of c)) (sym plan_is)
           (subst (IsReached b.plan) (sym state) reached);
@@ -149,7 +161,7 @@ keeps_hart h b d notes published low keeps is =
     keeps_on b (with_step (Hart h) b) (Hart h) d notes published keeps
     (record { plan = refl; steps = refl; run = hart_goes_on h b d is })
     makes.number (reached_hart h b.plan (state_of b) d low keeps.reached is) refl
-    (λ r. same_made (state_of b) d.state r makes.same ∙ keeps.played.used r) keeps.played.listed
+    (λ r. same_made (state_of b) d.state r makes.same ∙ keeps.played.used r) keeps.played.listed keeps.played.reports
 
 -- ---- An act ----
 
@@ -233,11 +245,36 @@ listed_on r k a b p there played handed declared is =
         subst (λ (xs : List Act). xs ≡ take (length xs) p.acts) (sym (acts_same r a b there))
         (one_taken (acts_of b r) p.acts a (played.listed r p declared is) next)
 
+-- acts with one more that is a report
+one_reported : (xs : List Act) (a : Act)
+    → ((i : ℕ) (report : Report) → slice_get xs i ≡ Some (act.Error report) → report.priority < 4) → IsReport (Some a)
+    → (i : ℕ) (report : Report) → slice_get (xs ++ a ∷ []) i ≡ Some (act.Error report) → report.priority < 4
+one_reported [] a reports last zero report is = last report is
+one_reported [] a reports last (suc i) report is = absurd (none-some (act.Error report) is)
+one_reported (x ∷ xs) a reports last zero report is = reports zero report is
+one_reported (x ∷ xs) a reports last (suc i) report is = one_reported xs a (λ j. reports (suc j)) last i report is
+
+reports_on : (r : ℕ) (a : Act) (b : Played) → r < length b.acts → AreReports (acts_of b) → IsReport (Some a)
+    → AreReports (acts_of (with_act r a b))
+reports_on r a b there reports last k i report =
+    elim (cases_eq k r)
+    as (λ _. slice_get (acts_of (with_act r a b) k) i ≡ Some (act.Error report) → report.priority < 4) [
+      | inl same ↦
+          subst (λ j. slice_get (acts_of (with_act r a b) j) i ≡ Some (act.Error report) → report.priority < 4)
+          (sym same)
+          (subst (λ (xs : List Act). slice_get xs i ≡ Some (act.Error report) → report.priority < 4)
+          (sym (acts_same r a b there)) (one_reported (acts_of b r) a (reports r) last i report))
+      | inr other ↦
+          subst (λ (xs : List Act). slice_get xs i ≡ Some (act.Error report) → report.priority < 4)
+          (sym (acts_other r k a b other)) (reports k i report)
+    ]
+
 pub keeps_reporter : (r : ℕ) (a : Act) (b : Played) (d : Stepped) (notes : List StepNote)
     (published : List Published) → r < length b.plan.reporters → Keeps b notes published
-    → (is_list b.plan r ≡ true → Some a ≡ listed b r) → reporter_step r b.plan (Some a) (state_of b) ≡ Some d
+    → (is_list b.plan r ≡ true → Some a ≡ listed b r) → IsReport (Some a)
+    → reporter_step r b.plan (Some a) (state_of b) ≡ Some d
     → Keeps (with_step (Reporter r) (with_act r a b)) (notes ++ d.note ∷ []) (published ++ with_copy d.published [])
-keeps_reporter r a b d notes published low keeps handed is =
+keeps_reporter r a b d notes published low keeps handed report is =
     let c = with_step (Reporter r) (with_act r a b) in
     let there : r < length b.acts = omega (arith, low, keeps.played.reporters) in
     let makes = reporter_makes r b.plan (state_of b) (Some a) d is in
@@ -251,3 +288,4 @@ keeps_reporter r a b d notes published low keeps handed is =
     (length-set b.acts r (acts_of b r ++ a ∷ []))
     (λ k. used_on r k a b d there keeps.played.used makes)
     (λ k p declared list. listed_on r k a b p there keeps.played handed declared list)
+    (reports_on r a b there keeps.played.reports report)

@@ -33,7 +33,7 @@ use Rattle.board_core.specs.declared.kept.Kept.{Kept}
 use Rattle.board_core.specs.declared.log.Log.{Log}
 use Rattle.board_core.specs.declared.board.Board.TheInside.{Inside}
 use Rattle.board_core.specs.Inside.{IsBoard, acts_in, played, rooms_in}
-use Rattle.board_core.specs.Played.{Played, AreListsReports, acts_of, after_act, after_reporter, fresh, is_list, listed, note_of, own_run, state_of, with_act, with_step}
+use Rattle.board_core.specs.Played.{IsReport, Played, AreListsReports, acts_of, after_act, after_reporter, fresh, is_list, listed, note_of, own_run, state_of, with_act, with_step}
 use Rattle.board_core.specs.Reached.{IsReached, Keeps}
 use Rattle.board_core.specs.Rooms.{HasRoom, HasSameRoom}
 use Rattle.board_core.proofs.Early.{hart_makes, reporter_makes}
@@ -320,9 +320,9 @@ act_is x y r a c low board plan acted logged =
 
 pub act_board : (x y : Inside) (r : ℕ) (a : Act) (c : Outcome) → r < length x.plan.reporters → IsBoard x
     → y.plan ≡ x.plan → y.parts.firmware.events.harts ≡ x.parts.firmware.events.harts → ActCame x r a y.parts c
-    → (is_list x.plan r ≡ true → Some a ≡ listed (played x) r) → IsActed x y r a
+    → (is_list x.plan r ≡ true → Some a ≡ listed (played x) r) → IsReport (Some a) → IsActed x y r a
     → IsLogged x.log y.log (Reporter r) c → HasCounted x.tally y.tally c.note → IsBoard y
-act_board x y r a c low board plan harts steps handed acted logged counts =
+act_board x y r a c low board plan harts steps handed report acted logged counts =
     let s = state_of (played x) in
     let d = came (reporter_step r x.plan (Some a) s) c steps.outcome in
     let b = with_step (Reporter r) (with_act r a (played x)) in
@@ -331,7 +331,8 @@ act_board x y r a c low board plan harts steps handed acted logged counts =
     let goes = reporter_goes_on r a (played x) d.made there keeps.played.all_made (keeps.played.used r) d.is in
     on_board x y b board plan harts (act_is x y r a c low board plan acted logged)
     (keeps_as x.log y.log b (Reporter r) c d.made d.told logged
-    (keeps_reporter r a (played x) d.made x.log.notes.items.items x.log.published.items.items low keeps handed d.is))
+    (keeps_reporter r a (played x) d.made x.log.notes.items.items x.log.published.items.items low keeps handed report
+    d.is))
     (subst (λ (q : Ran). Shows x.plan q.state y.parts) (sym goes)
     (shows_made x.plan s (reporter_step r x.plan (Some a) s) y.parts c d.made d.is steps))
     (subst (λ (q : Ran). Tallies x.plan q.notes y.tally) (sym goes)

@@ -105,3 +105,5 @@ pub record IsPlayed (b : Played) : Type 0 where
   pub used : (r : ℕ) → acts_made r (state_of b) ≡ length (acts_of b r)
   pub listed : (r : ℕ) (d : plan_reporter.Reporter) → slice_get b.plan.reporters r ≡ Some d → is_none d.device ≡ true
       → acts_of b r ≡ take (length (acts_of b r)) d.acts
+  -- each error that was made has a priority below 4
+  pub reports : AreReports (acts_of b)

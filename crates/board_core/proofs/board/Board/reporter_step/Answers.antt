@@ -4,7 +4,7 @@ use Rattle.std.specs.Vec.{with_item}
 use Rattle.board_plan.specs.Step.{reporter_step}
 use Rattle.board_core.specs.declared.board.Board.TheInside.{Inside}
 use Rattle.board_core.specs.Inside.{played}
-use Rattle.board_core.specs.Played.{Played, after_reporter, is_list, listed, note_of, state_of}
+use Rattle.board_core.specs.Played.{IsReport, Played, after_reporter, is_list, listed, note_of, state_of}
 use Rattle.board_core.proofs.Onward.{act_board, act_fits, act_has_place, act_is, act_next, act_note, idle_board, no_act_idle}
 use Rattle.board_core.proofs.board.Board.reporter_step.Goals as goal
 
@@ -64,7 +64,7 @@ invariant_of-self-2 c =
     let kept = c.keep.ensures in
     act_board x _ r a c.in-Some-reporter_step.outcome low c.self.invariant refl c.reporter_step.ensures.harts
     (c.in-Some-reporter_step.ensures.steps x.plan (state_of (played x)) c.self.invariant.shows
-    c.self.invariant.keeps.reached.early) handed
+    c.self.invariant.keeps.reached.early) handed (subst IsReport c.in-Some.is c.requires.report)
     (record {
       old = c.index_mut.result.now;
       new = c.push.new.self;
