@@ -6,4 +6,4 @@ pub mod Writing
 pub mod Memory
 pub mod Turns
 pub mod Told
-pub mod Laws
+pub mod Following
