@@ -7,3 +7,6 @@ pub mod Memory
 pub mod Turns
 pub mod Told
 pub mod Following
+pub mod WorkedPlans
+mod WorkedNesting
+mod WorkedReturn
