@@ -10,3 +10,6 @@ pub mod Beginning
 pub mod Prompt
 pub mod Following
 pub mod Framing
+pub mod Lasting
+pub mod Depths
+pub mod Marks
