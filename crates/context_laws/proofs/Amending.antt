@@ -1,8 +1,7 @@
 -- What notes make of a hart's handlers: of each frame, of the triple below them all, and of the handlers' ids.
-use Rattle.std.proofs.Common.{◌≡◌, ◌≢◌, ℕ, zero, suc, ◌+◌, ◌<◌, ◌≤◌, ◌==◌, ◌&&◌, Bool, true, false, cond, List, [], ◌∷◌, map, drop, length, Option, Some, None, refl, inl, inr, sym, ap, ◌∙◌, arith}
+use Rattle.std.proofs.Common.{◌≡◌, ℕ, suc, ◌==◌, ◌&&◌, Bool, true, false, cond, List, [], ◌∷◌, drop, length, Some, refl, sym, ap, ◌∙◌, arith}
 use Rattle.std.specs.Prelude.{not}
-use Rattle.std.proofs.Math.Dec.{eqb-suc-zero}
-use Rattle.std.proofs.lemmas.Bool.{cases_Bool, true≢false}
+use Rattle.std.proofs.lemmas.Bool.{true≢false}
 use Rattle.std.proofs.lemmas.List.{length-map}
 use Rattle.std.proofs.lemmas.Option.{none-some, same_Some}
 use Rattle.sse_base.specs.declared.ids.Instance.{Instance}
@@ -11,7 +10,7 @@ use Rattle.sse_base.specs.Contexts.{Context, Frame, Stack, Triple, below, with_b
 use Rattle.board_plan.specs.declared.notes.StepNote.{StepNote}
 use Rattle.board_plan.specs.declared.notes.StepNote.TheVariants as note
 use Rattle.board_plan.specs.Amend.{is_complete, ids_of, ids_with, ids_after, at_depth, amend_by, amend, completes, is_open}
-use Rattle.context_laws.proofs.Depths.{here, behind, at_within, top_at_depth, lowered, top_base}
+use Rattle.context_laws.proofs.Depths.{here, behind, at_within, top_at_depth, top_base}
 
 -- ---- One note ----
 

@@ -6,4 +6,7 @@ pub mod Writing
 pub mod Memory
 pub mod Turns
 pub mod Told
-pub mod Laws
+pub mod Following
+pub mod WorkedPlans
+mod WorkedNesting
+mod WorkedReturn

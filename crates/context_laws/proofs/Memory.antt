@@ -1,9 +1,9 @@
 -- Memory keeps its size: 512 words.
-use Rattle.std.proofs.Common.{◌≡◌, ℕ, suc, ◌+◌, ◌%◌, ◌^◌, Bool, true, false, cond, List, [], ◌∷◌, length, replicate, slice_get, set, Option, Some, None, nat_lt, refl, sym, ap, ◌∙◌, subst}
+use Rattle.std.proofs.Common.{◌≡◌, ℕ, ◌+◌, ◌%◌, ◌^◌, true, false, List, [], ◌∷◌, length, slice_get, set, Option, Some, None, nat_lt, refl, ap, ◌∙◌, subst}
 use Rattle.std.specs.Prelude.{◌==◌, ◌&&◌, not, unwrap_or, Result, Ok, Err}
 use Rattle.std.specs.Option.{option_map}
 use Rattle.std.proofs.lemmas.Bool.{cond_both}
-use Rattle.std.proofs.lemmas.List.{length-set, length-replicate}
+use Rattle.std.proofs.lemmas.List.{length-set}
 use Rattle.std.proofs.lemmas.Option.{none-some, same_Some}
 use Rattle.sse_base.specs.declared.codes.SbiCode.{SbiCode}
 use Rattle.sse_base.specs.declared.codes.SbiCode.TheVariants.{Success}
@@ -27,7 +27,7 @@ use Rattle.board_plan.specs.declared.ops.Reg.{Reg}
 use Rattle.board_plan.specs.declared.plan.Plan.{Plan}
 use Rattle.board_plan.specs.State.{BoardState, ReporterState}
 use Rattle.board_plan.specs.Ops.{Done, done, on_stack, is_user, needs_supervisor, op_at, past, register, loaded, stored, risen, jumped}
-use Rattle.board_plan.specs.Step.{BoardReach, Made, Effect, Stepped, quietly, at_bank, bank_due, with_effect, unplugged, apply, allowed, on_chosen, on_due, own_step, board_reach, step}
+use Rattle.board_plan.specs.Step.{BoardReach, Made, Effect, Stepped, quietly, at_bank, bank_due, with_effect, unplugged, apply, allowed, on_chosen, on_due, board_reach, step}
 use Rattle.reri_fields.specs.Drain.BankTry.{Drains, Acknowledges}
 use Rattle.event_laws.proofs.Outcomes.{hart_made, reporter_made}
 

@@ -1,14 +1,14 @@
 -- What the ops of a hart make of its handlers, but for calls.
-use Rattle.std.proofs.Common.{◌≡◌, ℕ, ◌+◌, ◌%◌, ◌^◌, ◌==◌, Bool, true, false, cond, List, [], ◌∷◌, length, refl, sym, ap, ◌∙◌}
+use Rattle.std.proofs.Common.{◌≡◌, ℕ, ◌==◌, Bool, true, false, cond, List, [], ◌∷◌, length, refl, sym, ap, ◌∙◌}
 use Rattle.std.proofs.lemmas.Bool.{true≢false}
 use Rattle.sse_base.specs.declared.contexts.Privilege.TheVariants.{User}
-use Rattle.sse_base.specs.Contexts.{Context, Frame, Stack, Triple, below, with_below, triple_of, with_triple, top_triple, change_top, bit, privilege_bit, privilege_at}
+use Rattle.sse_base.specs.Contexts.{Context, Frame, Stack, Triple, top_triple, change_top, bit, privilege_bit, privilege_at}
 use Rattle.board_plan.specs.declared.notes.StepNote.{StepNote}
 use Rattle.board_plan.specs.declared.notes.StepNote.TheVariants as note
 use Rattle.board_plan.specs.declared.ops.Reg.{Reg}
 use Rattle.board_plan.specs.declared.ops.Reg.TheVariants.{A6, A7, Sepc, Spp, Spie, Sie}
 use Rattle.board_plan.specs.Ops.{is_odd, register, set_register, returned}
-use Rattle.board_plan.specs.Amend.{with_register, after_sret, amend_by}
+use Rattle.board_plan.specs.Amend.{with_register, after_sret}
 use Rattle.event_laws.proofs.Outcomes.{is_drains, is_plain}
 use Rattle.context_laws.proofs.Amending.{Amends, IsQuiet, IsOnTop, amends_quiet, amends_top}
 

@@ -1,10 +1,8 @@
 -- What a step makes of a hart's handlers, as the hart's notes tell it, and what a run makes of them.
-use Rattle.std.proofs.Common.{◌≡◌, ◌⊎◌, ℕ, suc, ◌+◌, ◌%◌, ◌^◌, ◌<◌, ◌≤◌, ◌==◌, Bool, true, false, cond, List, [], ◌∷◌, map, length, set, get_or, slice_get, Option, Some, None, refl, inl, inr, sym, ap, ◌∙◌, subst, arith}
-use Rattle.std.specs.Prelude.{filter, slice_index}
-use Rattle.std.proofs.lemmas.Bool.{cases_Bool, eqb-true, true≢false}
-use Rattle.std.proofs.lemmas.Bool.Decides.{eqb_tells}
-use Rattle.std.proofs.lemmas.List.{length-set}
-use Rattle.std.proofs.lemmas.Option.{none-some, same_Some, slice_get_within, get_or_from_slice_get}
+use Rattle.std.proofs.Common.{◌≡◌, ℕ, ◌≤◌, Bool, true, false, List, [], ◌∷◌, length, get_or, slice_get, Option, Some, refl, sym, ap, ◌∙◌, subst, arith}
+use Rattle.std.specs.Prelude.{slice_index}
+use Rattle.std.proofs.lemmas.Bool.{true≢false}
+use Rattle.std.proofs.lemmas.Option.{slice_get_within, get_or_from_slice_get}
 use Rattle.sse_base.specs.declared.functions.Function.{Function}
 use Rattle.sse_base.specs.declared.functions.Function.TheVariants as functions
 use Rattle.sse_base.specs.declared.arrows.Move.{Move}
@@ -12,34 +10,28 @@ use Rattle.sse_base.specs.declared.ids.Instance.{Instance}
 use Rattle.sse_base.specs.Ids.{id_of, instance_of}
 use Rattle.sse_base.specs.Functions.{function_of}
 use Rattle.sse_base.specs.Events.{event, is_running}
-use Rattle.sse_base.specs.Contexts.{Frame, Stack, bit, newest, complete, with_pc}
+use Rattle.sse_base.specs.Contexts.{Frame, Stack, bit, complete, with_pc}
 use Rattle.sse_base.specs.Machine.{Machine, Reach}
 use Rattle.sse_base.specs.Choice.{next_for}
 use Rattle.sse_base.specs.declared.codes.SbiCode.{SbiCode}
 use Rattle.sse_base.specs.declared.codes.SbiCode.TheVariants.{Success}
-use Rattle.sse_base.specs.Calls.{Answer, argument_at, call, complete_newest, completed_at, delivered, no_words, padded, with_interrupted}
-use Rattle.ras_device.specs.declared.act.Act.{Act}
-use Rattle.board_plan.specs.declared.notes.Step.{Step}
-use Rattle.board_plan.specs.declared.notes.Step.TheVariants.{Hart, Reporter}
+use Rattle.sse_base.specs.Calls.{Answer, complete_newest, delivered, no_words, padded, with_interrupted}
 use Rattle.board_plan.specs.declared.notes.StepNote.{StepNote}
 use Rattle.board_plan.specs.declared.notes.StepNote.TheVariants as note
 use Rattle.board_plan.specs.declared.plan.Plan.{Plan}
-use Rattle.board_plan.specs.State.{BoardState}
 use Rattle.board_plan.specs.Ops.{past, register, returned, set_register}
-use Rattle.board_plan.specs.Step.{Stepped, after_hart, board_reach, event_signalled, step}
-use Rattle.board_plan.specs.Run.{Noted, state_after, noted, run, notes}
+use Rattle.board_plan.specs.Step.{event_signalled}
 use Rattle.board_plan.specs.Sound.{AreOf, is_move_of}
-use Rattle.board_plan.specs.Amend.{is_by, is_done, own_notes}
-use Rattle.sbi_sse.specs.Kept.{times, ats, running, IsKept}
+use Rattle.board_plan.specs.Amend.{is_done}
+use Rattle.sbi_sse.specs.Kept.{times, ats}
 use Rattle.sbi_sse.proofs.Counting.{part_of_running}
 use Rattle.event_laws.proofs.Calls.{CallCases, call_cases}
 use Rattle.event_laws.proofs.Framing.{frames_at}
-use Rattle.event_laws.proofs.Outcomes.{StepCases, is_drains, is_plain, own_cases, hart_made, reporter_made}
-use Rattle.event_laws.proofs.Standing.{Keeps, set_same, set_other, step_keeps}
-use Rattle.context_laws.proofs.Amending.{Amends, AmendsAll, IsQuiet, amends_quiet, amends_delivery, amends_none, amends_more}
+use Rattle.event_laws.proofs.Outcomes.{StepCases, is_drains, is_plain}
+use Rattle.event_laws.proofs.Standing.{Keeps}
+use Rattle.context_laws.proofs.Amending.{Amends, IsQuiet, amends_quiet, amends_delivery}
 use Rattle.context_laws.proofs.Ops.{plain_quiet, drains_quiet, amends_set, amends_load, amends_sret}
 use Rattle.context_laws.proofs.Writing.{is_write, refused_quiet, other_quiet, completion, amends_complete, words_many, amends_write}
-use Rattle.context_laws.proofs.Memory.{step_memory}
 
 -- ---- A hart's step ----
 

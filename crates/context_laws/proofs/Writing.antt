@@ -1,11 +1,10 @@
 -- What calls make of a hart's handlers: a write of attributes, a completion, and all others.
-use Rattle.std.proofs.Common.{◌≡◌, ◌≢◌, ℕ, zero, suc, ◌+◌, ◌-◌, ◌*◌, ◌/◌, ◌%◌, ◌<◌, ◌≤◌, ◌==◌, ◌&&◌, Bool, true, false, cond, List, [], ◌∷◌, ◌++◌, map, take, drop, length, replicate, Option, Some, None, refl, inl, inr, sym, ap, ◌∙◌, subst, arith, nat_le, leb-true, le-leb}
+use Rattle.std.proofs.Common.{◌≡◌, ℕ, zero, suc, ◌+◌, ◌-◌, ◌*◌, ◌%◌, ◌≤◌, ◌==◌, ◌&&◌, Bool, true, false, cond, List, [], ◌∷◌, map, take, drop, length, replicate, Option, Some, refl, inl, inr, sym, ap, ◌∙◌, subst, arith, nat_le, leb-true, le-leb}
 use Rattle.std.specs.Prelude.{slice_index}
 use Rattle.std.specs.Option.{option_map}
 use Rattle.std.proofs.lemmas.Bool.{cases_Bool, true≢false, and_parts}
 use Rattle.std.proofs.lemmas.Bool.Decides.{eqb_tells, nat_tests}
-use Rattle.std.proofs.lemmas.List.{length-map, length-drop, length-take-le, take_at}
-use Rattle.std.proofs.lemmas.Option.{none-some, same_Some}
+use Rattle.std.proofs.lemmas.List.{length-drop, length-take-le, take_at}
 use Rattle.sse_base.specs.declared.codes.SbiCode.{SbiCode}
 use Rattle.sse_base.specs.declared.codes.SbiCode.TheVariants.{Success}
 use Rattle.sse_base.specs.declared.functions.Function.{Function}
@@ -14,7 +13,7 @@ use Rattle.sse_base.specs.declared.ids.Instance.{Instance}
 use Rattle.sse_base.specs.Ids.{id_of, instance_of, is_global, same_instance}
 use Rattle.sse_base.specs.Codes.{is_success}
 use Rattle.sse_base.specs.Functions.{function_of}
-use Rattle.sse_base.specs.Contexts.{Context, Frame, Stack, Triple, Under, triple_of, with_triple, below, with_below, changed_below, changed_own, complete}
+use Rattle.sse_base.specs.Contexts.{Context, Frame, Stack, Triple, triple_of, with_triple, below, with_below, changed_below, changed_own, complete}
 use Rattle.sse_base.specs.Words.{are_words, words_at, word_index}
 use Rattle.sse_base.specs.Calls.{extension, padded, with_interrupted, with_interrupted_triple, with_interrupted_words}
 use Rattle.sse_base.proofs.Instances.{same_self, same_is}
@@ -25,7 +24,7 @@ use Rattle.board_plan.specs.declared.notes.StepNote.TheVariants as note
 use Rattle.board_plan.specs.Notes.{is_accepted_write}
 use Rattle.board_plan.specs.Sound.{AreOf}
 use Rattle.board_plan.specs.Amend.{is_done, is_complete, ids_of, is_id, at_depth, amend_by, written_own, written_below, written_by}
-use Rattle.context_laws.proofs.Depths.{here, behind, at_none, at_mapped, is_at, own_changed, own_at_depth, lowered, below_at_depth, below_base}
+use Rattle.context_laws.proofs.Depths.{at_none, at_mapped, is_at, own_at_depth, lowered, below_at_depth, below_base}
 use Rattle.context_laws.proofs.Amending.{Amends, IsQuiet, IsCompletion, amends_completion, amends_no_completion}
 
 -- ---- Which calls complete, and which write ----

@@ -1,29 +1,27 @@
 -- The laws of interrupted contexts, for every plan that a board can be made of.
-use Rattle.std.proofs.Common.{◌≡◌, ℕ, zero, suc, ◌<◌, ◌==◌, ◌&&◌, true, false, List, [], ◌∷◌, map, length, slice_get, get_or, Option, Some, None, refl, sym, ap, ◌∙◌, subst}
+use Rattle.std.proofs.Common.{◌≡◌, ℕ, zero, suc, ◌<◌, ◌==◌, false, List, [], ◌∷◌, map, length, slice_get, get_or, Some, refl, sym, ap, ◌∙◌, subst}
 use Rattle.std.proofs.lemmas.Bool.{and_parts, eqb-true}
 use Rattle.std.proofs.lemmas.List.{length-map, length-set}
 use Rattle.std.proofs.lemmas.Option.{none-some, same_Some, slice_get_within, slice_get-get_or}
 use Rattle.sse_base.specs.declared.contexts.Privilege.TheVariants.{User}
 use Rattle.sse_base.specs.Ids.{id_of, instance_of}
-use Rattle.sse_base.specs.Contexts.{Context, Frame, Stack, Triple, triple_of, fresh_stack}
+use Rattle.sse_base.specs.Contexts.{Frame, Stack, triple_of, fresh_stack}
 use Rattle.ras_device.specs.declared.act.Act.{Act}
 use Rattle.board_plan.specs.declared.notes.Step.{Step}
 use Rattle.board_plan.specs.declared.notes.Step.TheVariants.{Hart, Reporter}
 use Rattle.board_plan.specs.declared.notes.StepNote.{StepNote}
-use Rattle.board_plan.specs.declared.notes.StepNote.TheVariants as note
 use Rattle.board_plan.specs.declared.plan.Plan.{Plan}
 use Rattle.board_plan.specs.Plans.{IsPlan}
 use Rattle.board_plan.specs.State.{BoardState, start_places, start_state}
 use Rattle.board_plan.specs.Step.{Stepped, step}
 use Rattle.board_plan.specs.Run.{run, notes, ran}
-use Rattle.board_plan.specs.Amend.{own_notes, is_complete, ids_of, ids_with, ids_after, at_depth, amend, is_open, completes, Delivery, depth, ids, notes_since, state_since, StillRuns, amended, EachFrameIsAmended, EachCompletionRestores, EachBaseIsAmended, EachStackIsTold, IsAmended}
+use Rattle.board_plan.specs.Amend.{own_notes, is_complete, ids_of, ids_with, ids_after, at_depth, amend, is_open, Delivery, depth, ids, notes_since, state_since, StillRuns, amended, EachFrameIsAmended, EachCompletionRestores, EachBaseIsAmended, EachStackIsTold, IsAmended}
 use Rattle.event_laws.proofs.Beginning.{start_keeps}
 use Rattle.event_laws.proofs.Outcomes.{hart_made, reporter_made}
 use Rattle.event_laws.proofs.Runs.{each_state, run_keeps}
 use Rattle.context_laws.proofs.Depths.{here}
 use Rattle.context_laws.proofs.Amending.{AmendsAll}
-use Rattle.context_laws.proofs.Turns.{Tells}
-use Rattle.context_laws.proofs.Told.{IsFine, OwnTurn, Told, TellsRun, fine_after, own_turn, run_tells}
+use Rattle.context_laws.proofs.Told.{IsFine, fine_after, own_turn, run_tells}
 
 -- ---- The start ----
 
