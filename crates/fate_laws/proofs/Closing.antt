@@ -1,5 +1,5 @@
 -- The laws, from what the other files say.
-use Rattle.std.proofs.Common.{◌≡◌, ℕ, true, List, length, slice_get, Option, Some, sym, ap, ◌∙◌}
+use Rattle.std.proofs.Common.{◌≡◌, ℕ, List, slice_get, Some, ap, ◌∙◌}
 use Rattle.sse_base.specs.Contexts.{bit}
 use Rattle.reri_fields.specs.Records.{Error}
 use Rattle.ras_device.specs.declared.act.Act.{Act}
@@ -7,7 +7,6 @@ use Rattle.board_plan.specs.declared.notes.Step.{Step}
 use Rattle.board_plan.specs.declared.plan.Plan.{Plan}
 use Rattle.board_plan.specs.Run.{ran}
 use Rattle.board_plan.specs.Fates.{News, errors_made, has_fate, fates_of, news, number_with}
-use Rattle.board_plan.specs.Fates.Fate.{Drained}
 use Rattle.board_plan.specs.Sound.{EachHasOneFate}
 use Rattle.board_plan.specs.Blocks.{EachDrainedWasPublished}
 use Rattle.fate_laws.specs.Sums.{AddUp}

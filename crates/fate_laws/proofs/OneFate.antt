@@ -10,16 +10,16 @@ use Rattle.reri_fields.specs.Records.{Error, Origin}
 use Rattle.reri_fields.specs.Records.Event.{Reported, Claimed, Invalidated}
 use Rattle.reri_fields.specs.Outcome.{outcome}
 use Rattle.board_plan.specs.declared.plan.Plan.{Plan}
-use Rattle.board_plan.specs.Fates.{Deed, Fate, News, ExactlyOne, told, is_shown, is_answered, is_drained, is_written_over, says_disabled, says_counted, says_wrote, says_kept, has_fate_here, has_fate_of, is_stray, has_fate, deed_at, deeds_of, with_deed, error_at, errors_made, is_at, origin_at}
+use Rattle.board_plan.specs.Fates.{Deed, Fate, News, ExactlyOne, told, is_shown, is_answered, is_drained, is_written_over, says_disabled, says_counted, says_wrote, says_kept, has_fate_here, has_fate_of, is_stray, has_fate, deed_at, deeds_of, with_deed, error_at, is_at, origin_at}
 use Rattle.board_plan.specs.Fates.Deed.{Was, Checked}
 use Rattle.board_plan.specs.Fates.Fate.{Stray, WasDisabled, WasCounted, WasKept, Drained, Overwritten, Stands}
 use Rattle.board_plan.specs.Fates.News.{Errs, Claims, Checks, Invalidates, Other}
 use Rattle.board_fates.proofs.Places.{deeds_ordered, bit, count_next}
 use Rattle.board_fates.proofs.Shown.{later_unanswered}
 use Rattle.board_fates.proofs.Numbers.{at_itself}
-use Rattle.fate_laws.proofs.Orderly.{IsOrderly, Course, course}
-use Rattle.fate_laws.proofs.Orderly.Course.{wrote_not, lost, stands}
-use Rattle.fate_laws.proofs.Made.{error_of, newer_apart, came_then, each_is_of_its_step}
+use Rattle.fate_laws.proofs.Orderly.{IsOrderly, Course, course, or_none}
+use Rattle.fate_laws.proofs.Orderly.Course.{wrote_not, drains, lost, stands}
+use Rattle.fate_laws.proofs.Made.{error_of, newer_apart, came_then}
 
 -- ---- All records ----
 
@@ -85,10 +85,6 @@ still_answered origin bank rec news ns e made h =
           answered_still test origin bank rec (suc (length ns)) news (deeds_of bank rec ns) e.step
           (newer_apart (length ns) e.step (came_then e.step ns e made).low) ∙ h.is test;
     }
-
-or_none : (a b : Bool) → b ≡ false → (a || b) ≡ a
-or_none true b h = refl
-or_none false b h = h
 
 newest_answered : (origin : Origin) (bank rec : ℕ) (report : Report) (ns : List News)
     → is_at bank rec report.bank report.rec ≡ true
@@ -183,8 +179,8 @@ one_by : (logged : Logged) (drained over shown : Bool) → Course (says_wrote lo
 one_by Disabled d o s wrote_not = record { one = (WasDisabled, refl, only_disabled); sum = refl }
 one_by Counted d o s wrote_not = record { one = (WasCounted, refl, only_counted); sum = refl }
 one_by Kept d o s wrote_not = record { one = (WasKept, refl, only_kept); sum = refl }
-one_by (Wrote level) d o s (Course.published true) = record { one = (Drained, refl, only_drained level true); sum = refl }
-one_by (Wrote level) d o s (Course.published false) = record { one = (Drained, refl, only_drained level false); sum = refl }
+one_by (Wrote level) d o s (drains true) = record { one = (Drained, refl, only_drained level true); sum = refl }
+one_by (Wrote level) d o s (drains false) = record { one = (Drained, refl, only_drained level false); sum = refl }
 one_by (Wrote level) d o s lost = record { one = (Overwritten, refl, only_over level); sum = refl }
 one_by (Wrote level) d o s stands = record { one = (Stands, refl, only_stands level); sum = refl }
 

@@ -1,8 +1,7 @@
 -- The order in which drains act on a record, and what is so of each error of a record on which they kept it.
-use Rattle.std.proofs.Common.{◌≡◌, ℕ, ◌<◌, ◌==◌, ◌&&◌, ◌||◌, not, Bool, true, false, List, [], ◌∷◌, Option, Some, None, refl, inl, inr, sym, ap, ◌∙◌, subst, arith}
+use Rattle.std.proofs.Common.{◌≡◌, ℕ, ◌==◌, ◌&&◌, ◌||◌, not, Bool, true, false, List, [], ◌∷◌, Some, refl, inl, inr, sym, ap, ◌∙◌, subst}
 use Rattle.std.proofs.lemmas.Bool.{cases_Bool, true≢false, eqb-true, and_parts, or_left}
-use Rattle.reri_fields.specs.declared.report.Logged.{Logged}
-use Rattle.reri_fields.specs.Records.{Error, Event, Origin, AllBefore, AreInOrder, shown, since, in_progress}
+use Rattle.reri_fields.specs.Records.{Error, Origin, AllBefore, AreInOrder, shown, since, in_progress}
 use Rattle.reri_fields.specs.Records.Event.{Reported, Claimed, Invalidated}
 use Rattle.reri_fields.specs.Outcome.{outcome, wrote}
 use Rattle.reri_log.proofs.Claims.{in_progress_reported}
@@ -122,7 +121,7 @@ drained_shown origin (Checked false ∷ deeds) n ok order is drained =
 -- whether it wrote its record, a Check published it, it was written over, it is shown: all that can be at once
 pub data Course : Bool → Bool → Bool → Bool → Type 0 where
   wrote_not : Course false false false false
-  published : (shown : Bool) → Course true true false shown
+  drains : (shown : Bool) → Course true true false shown
   lost : Course true false true false
   stands : Course true false false true
 
@@ -133,25 +132,25 @@ course_as {w} {d} {o} {s} {x} {e} {p} {t} a b c f h =
 
 after_write : {w d o s : Bool} → Course w d o s → Course w d ((true && s && not d) || o) false
 after_write wrote_not = wrote_not
-after_write (published true) = published false
-after_write (published false) = published false
+after_write (drains true) = drains false
+after_write (drains false) = drains false
 after_write lost = lost
 after_write stands = lost
 
 after_publishing : {w d o s : Bool} → Course w d o s → Course w (s || d) o s
 after_publishing wrote_not = wrote_not
-after_publishing (published true) = published true
-after_publishing (published false) = published false
+after_publishing (drains true) = drains true
+after_publishing (drains false) = drains false
 after_publishing lost = lost
-after_publishing stands = published true
+after_publishing stands = drains true
 
 after_clearing : {w d o s : Bool} → (s ≡ true → d ≡ true) → Course w d o s → Course w d o false
 after_clearing h wrote_not = wrote_not
-after_clearing h (published shown) = published false
+after_clearing h (drains shown) = drains false
 after_clearing h lost = lost
 after_clearing h stands = absurd (true≢false (sym (h refl)))
 
-or_none : (a b : Bool) → b ≡ false → (a || b) ≡ a
+pub or_none : (a b : Bool) → b ≡ false → (a || b) ≡ a
 or_none true b h = refl
 or_none false b h = h
 

@@ -1,12 +1,12 @@
 -- The Check that published a drained error is a step of the run, with the copy of what the record showed then.
-use Rattle.std.proofs.Common.{◌≡◌, ◌⊎◌, ℕ, suc, ◌==◌, Bool, true, false, cond, List, [], ◌∷◌, ◌++◌, length, slice_get, Option, Some, None, refl, inl, inr, sym, ap, ◌∙◌, subst, append_assoc}
+use Rattle.std.proofs.Common.{◌≡◌, ◌⊎◌, ℕ, suc, ◌==◌, true, false, cond, List, [], ◌∷◌, ◌++◌, length, slice_get, Option, Some, None, refl, inl, inr, sym, ap, ◌∙◌, subst, append_assoc}
 use Rattle.std.proofs.lemmas.Bool.{cases_Bool, eqb-true, true≢false}
 use Rattle.std.proofs.lemmas.Option.{none-some, same_Some}
 use Rattle.sse_base.specs.Events.{Events}
 use Rattle.reri_fields.specs.declared.report.RecordCopy.{RecordCopy}
 use Rattle.reri_fields.specs.Records.{Error, Origin, copy_after, shown, since}
 use Rattle.reri_fields.specs.Banks.{events_of}
-use Rattle.reri_fields.specs.Drain.{BankPlan, BankState, BankTry, BankNote}
+use Rattle.reri_fields.specs.Drain.{BankState, BankTry, BankNote}
 use Rattle.ras_device.specs.declared.act.Act.{Act}
 use Rattle.board_plan.specs.declared.notes.Published.{Published}
 use Rattle.board_plan.specs.declared.notes.Step.{Step}
@@ -17,17 +17,17 @@ use Rattle.board_plan.specs.declared.plan.Plan.{Plan}
 use Rattle.board_plan.specs.State.{BoardState, bank_plan}
 use Rattle.board_plan.specs.Step.{Stepped, bank_note, published_by, step}
 use Rattle.board_plan.specs.Run.{ran}
-use Rattle.board_plan.specs.Fates.{News, told, deeds_of, errors_made, error_at, has_fate, is_at, is_shown, news, news_of, origin_at, origin_in}
+use Rattle.board_plan.specs.Fates.{News, told, deeds_of, error_at, has_fate, is_at, news, news_of, origin_at, origin_in}
 use Rattle.board_plan.specs.Fates.Fate.{Drained}
 use Rattle.board_plan.specs.Fates.News.{Errs, Claims, Checks, Invalidates, Other}
 use Rattle.board_plan.specs.Sound.{shows_at}
 use Rattle.board_plan.specs.Blocks.{IsPublicationOf}
 use Rattle.board_fates.proofs.Runs.{ran_tells}
 use Rattle.drain_laws.proofs.BankMoves.{Moves, moves}
-use Rattle.drain_laws.proofs.BoardMoves.{AtBank, Touches, is_apart, step_does}
-use Rattle.fate_laws.proofs.Made.{error_of, older_error, shown_was_made}
+use Rattle.drain_laws.proofs.BoardMoves.{Touches, is_apart, step_does}
+use Rattle.fate_laws.proofs.Made.{error_of, shown_was_made}
 use Rattle.fate_laws.proofs.Published.{is_no_publication, fate_still, check_still, newest_undrained, same_record, shown_error}
-use Rattle.fate_laws.proofs.Tries.{GoesOn, all_tries, goes_on, news_after}
+use Rattle.fate_laws.proofs.Tries.{GoesOn, all_tries, goes_on}
 
 -- ---- Steps that publish ----
 
@@ -264,4 +264,5 @@ pub drained_was_published : (plan : Plan) (acts : ℕ → List Act) (ts : List S
     → Holds plan acts ts (news (ran plan acts ts).notes)
 drained_was_published plan acts ts =
     all_tries (λ us. Holds plan acts us (news (ran plan acts us).notes)) (no_tries plan acts)
-    (λ us t h. tried_holds plan acts us t (step plan acts t (ran plan acts us).state) refl (goes_on plan acts us t) h) ts
+    (λ us t h. tried_holds plan acts us t (step plan acts t (ran plan acts us).state) refl (goes_on plan acts us t) h)
+    ts

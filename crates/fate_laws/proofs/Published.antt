@@ -1,7 +1,6 @@
 -- How many Checks published the error of a step: one where that error is drained, and none else.
 use Rattle.std.proofs.Common.{◌≡◌, ℕ, suc, ◌+◌, ◌≤◌, ◌==◌, ◌||◌, Bool, true, false, cond, List, [], ◌∷◌, length, Option, Some, None, refl, inl, inr, sym, ap, ◌∙◌, subst, arith}
-use Rattle.std.proofs.lemmas.Bool.{cases_Bool, true≢false, eqb-true, and_parts, or_left}
-use Rattle.std.proofs.lemmas.Option.{none-some, same_Some}
+use Rattle.std.proofs.lemmas.Bool.{cases_Bool, true≢false, eqb-true, and_parts}
 use Rattle.reri_fields.specs.declared.report.Report.{Report}
 use Rattle.reri_fields.specs.Records.{Error, Origin, came_at, shown, since}
 use Rattle.reri_fields.specs.Records.Event.{Reported, Claimed, Invalidated}
@@ -11,11 +10,11 @@ use Rattle.board_plan.specs.Fates.{Deed, News, told, is_shown, is_drained, has_f
 use Rattle.board_plan.specs.Fates.Deed.{Was, Checked}
 use Rattle.board_plan.specs.Fates.Fate.{Drained}
 use Rattle.board_plan.specs.Fates.News.{Errs, Claims, Checks, Invalidates, Other}
-use Rattle.board_plan.specs.Sound.{shows_at, publishes, times_published}
+use Rattle.board_plan.specs.Sound.{shows_at, times_published}
 use Rattle.board_fates.proofs.Places.{deeds_ordered}
 use Rattle.board_fates.proofs.Shown.{later_undrained}
 use Rattle.board_fates.proofs.Numbers.{at_itself}
-use Rattle.fate_laws.proofs.Orderly.{Stage, IsOrderly, drained_shown}
+use Rattle.fate_laws.proofs.Orderly.{IsOrderly, drained_shown}
 use Rattle.fate_laws.proofs.Orderly.Stage.{Claiming, Publishing}
 use Rattle.fate_laws.proofs.Made.{error_of, came_then, none_later, shown_was_made}
 use Rattle.fate_laws.proofs.OneFate.{AreOrderly, orderly_before}
@@ -111,8 +110,8 @@ error_drained : (plan : Plan) (report : Report) (ns : List News) (n : ℕ)
     → was_drained plan (Errs report ∷ ns) (error_of n (Errs report ∷ ns)) ≡ was_drained plan ns (error_of n ns)
 error_drained plan report ns n =
     let new = error_at (suc (length ns)) report in
-    elim (cases_Bool (suc (length ns) == n)) as (λ _. was_drained plan (Errs report ∷ ns) (error_of n (Errs report ∷ ns))
-    ≡ was_drained plan ns (error_of n ns)) [
+    elim (cases_Bool (suc (length ns) == n)) as (λ _.
+    was_drained plan (Errs report ∷ ns) (error_of n (Errs report ∷ ns)) ≡ was_drained plan ns (error_of n ns)) [
       | inl now ↦
           let at : suc (length ns) ≡ n = eqb-true (suc (length ns)) n now in
           ap (λ b. was_drained plan (Errs report ∷ ns) (cond b (Some new) (error_of n ns))) now

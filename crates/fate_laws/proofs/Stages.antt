@@ -1,17 +1,16 @@
 -- In every run drains keep their order on each record.
 use Rattle.std.proofs.Common.{◌≡◌, ℕ, zero, suc, ◌<◌, ◌==◌, ◌&&◌, Bool, true, false, cond, nat_lt, List, [], ◌∷◌, map, length, set, slice_get, Option, Some, None, refl, inl, inr, sym, ap, ◌∙◌, subst, arith}
-use Rattle.std.proofs.lemmas.Bool.{cases_Bool, cases_eq, eq-eqb, eqb-true, ne_eqb, true≢false}
-use Rattle.std.proofs.lemmas.Option.{none-some, same_Some, slice_get_within}
+use Rattle.std.proofs.lemmas.Bool.{cases_eq, eq-eqb, eqb-true, ne_eqb, true≢false}
+use Rattle.std.proofs.lemmas.Option.{slice_get_within}
 use Rattle.sse_base.specs.Events.{Events}
 use Rattle.reri_fields.specs.declared.report.Report.{Report}
 use Rattle.reri_fields.specs.declared.drain.Phase.{Phase}
 use Rattle.reri_fields.specs.declared.drain.Phase.TheVariants.{Scan, Claim, Address, Info, Supplement, Time, Check, Invalidate, Signal}
-use Rattle.reri_fields.specs.declared.drain.DrainNote.{DrainNote}
 use Rattle.reri_fields.specs.declared.drain.DrainNote.TheVariants as drain
-use Rattle.reri_fields.specs.Records.{Event, Origin, in_progress}
+use Rattle.reri_fields.specs.Records.{Origin, in_progress}
 use Rattle.reri_fields.specs.Records.Event.{Reported, Claimed, Invalidated}
 use Rattle.reri_fields.specs.Banks.{BankEvent, events_of}
-use Rattle.reri_fields.specs.Drain.{BankPlan, BankState, BankStep, BankTry, BankNote, Draining, is_cleared, claimed_at, after_empty_scan, after_invalidate, fresh_drain, bank_start}
+use Rattle.reri_fields.specs.Drain.{BankPlan, BankState, BankTry, BankNote, Draining, is_cleared, claimed_at, after_empty_scan, after_invalidate, fresh_drain, bank_start}
 use Rattle.reri_fields.specs.Drain.BankNote.{Heard, Drew, Acknowledged}
 use Rattle.ras_device.specs.declared.act.Act.{Act}
 use Rattle.board_plan.specs.declared.notes.Published.{Published}
@@ -21,11 +20,11 @@ use Rattle.board_plan.specs.declared.notes.StepNote.TheVariants as note
 use Rattle.board_plan.specs.declared.plan.BankDecl.{BankDecl}
 use Rattle.board_plan.specs.declared.plan.Plan.{Plan}
 use Rattle.board_plan.specs.State.{BoardState, bank_plan, start_state}
-use Rattle.board_plan.specs.Step.{Stepped, bank_note, step}
+use Rattle.board_plan.specs.Step.{bank_note}
 use Rattle.board_plan.specs.Run.{ran}
 use Rattle.board_plan.specs.Fates.{Deed, News, told, with_deed, deed_at, deeds_of, error_at, is_at, origin_at, origin_in, news_of, news}
 use Rattle.board_plan.specs.Fates.Deed.{Was, Checked}
-use Rattle.board_plan.specs.Fates.News.{Errs, Claims, Checks, Invalidates, Other}
+use Rattle.board_plan.specs.Fates.News.{Errs}
 use Rattle.board_fates.proofs.Runs.{ran_tells}
 use Rattle.drain_laws.proofs.BankMoves.{IsDue, Moves, is_reading, is_read_to, moves}
 use Rattle.drain_laws.proofs.BoardMoves.{AtBank, Touches, is_apart, step_does}

@@ -1,5 +1,5 @@
 -- How many errors were made, by what became of them. This project's own.
-use Rattle.std.specs.Prelude.{◌≡◌, ℕ, ◌+◌}
+use Rattle.std.specs.Prelude.{◌≡◌, ◌+◌}
 use Rattle.board_plan.specs.declared.notes.Fates as fates
 
 -- so many were made as have one of the seven fates, none being counted twice or left out

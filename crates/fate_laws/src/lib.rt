@@ -1,5 +1,5 @@
-//! What holds of the fates of errors in every run of every board. Each law is a public function with an empty body whose
-//! contract says it. The laws speak of the books of records and boards, and of no code.
+//! What holds of the fates of errors in every run of every board. Each law is a public function with an empty body
+//! whose contract says it. The laws speak of the books of records and boards, and of no code.
 #![tactic(auto)]
 
 mod laws;
