@@ -13,3 +13,5 @@ pub mod BoardSound
 pub mod Showing
 pub mod DueBanks
 pub mod Homes
+pub mod BankRuns
+pub mod Slots
