@@ -70,7 +70,7 @@ started plan (Some e) bank d x h =
     subst (BankSound (bank_plan bank d plan.recs) 1) (same_Some bank_start x h)
     (start_sound (bank_plan bank d plan.recs) 1)
 
-start_board : (plan : Plan) → BoardSound plan (start_state plan)
+pub start_board : (plan : Plan) → BoardSound plan (start_state plan)
 start_board plan =
     record {
       count = length-map plan.banks (λ (e : BankDecl). bank_start);
