@@ -15,3 +15,6 @@ pub mod DueBanks
 pub mod Homes
 pub mod BankRuns
 pub mod Slots
+pub mod Ranks
+pub mod OwnTurns
+pub mod Tries
