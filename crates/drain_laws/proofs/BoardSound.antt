@@ -1,6 +1,7 @@
 -- Each bank of a board is sound at each state of each run.
-use Rattle.std.proofs.Common.{◌≡◌, ℕ, suc, ◌<◌, ◌≤◌, List, map, slice_get, Option, Some, None, refl, sym, ap, ◌∙◌, subst, arith}
+use Rattle.std.proofs.Common.{◌≡◌, ℕ, suc, ◌<◌, ◌≤◌, List, length, map, slice_get, Option, Some, None, refl, sym, ap, ◌∙◌, subst, arith}
 use Rattle.std.specs.Option.{option_map}
+use Rattle.std.proofs.lemmas.List.{length-map}
 use Rattle.std.proofs.lemmas.Option.{none-some, same_Some, slice_get-map}
 use Rattle.reri_fields.specs.declared.report.Report.{Report}
 use Rattle.reri_fields.specs.Records.{Error, Origin}
@@ -20,11 +21,12 @@ use Rattle.board_plan.specs.Plans.{IsPlan}
 use Rattle.drain_laws.proofs.BoardMoves.{Comes, step_does}
 use Rattle.drain_laws.proofs.BankSound.{BankSound, sound_later}
 use Rattle.drain_laws.proofs.BankSteps.{IsNow, moves_sound, start_sound}
-use Rattle.drain_laws.proofs.Turns.{Turn, TakesTurn, turn_of, there_before}
+use Rattle.drain_laws.proofs.Turns.{Turn, TakesTurn, turn_of, same_count, there_before}
 use Rattle.drain_laws.proofs.Turns.Turn.{rests, takes}
 use Rattle.drain_laws.proofs.Runs.{kept, kept_from_start}
 
 pub record BoardSound (plan : Plan) (s : BoardState) : Type 0 where
+  pub count : length s.banks ≡ length plan.banks
   pub each : (bank : ℕ) (d : BankDecl) (x : BankState) → slice_get plan.banks bank ≡ Some d
       → slice_get s.banks bank ≡ Some x → BankSound (bank_plan bank d plan.recs) (suc s.steps) x
 
@@ -52,6 +54,7 @@ pub step_sound : (plan : Plan) (acts : ℕ → List Act) → IsPlan plan → (t 
     → step plan acts t s ≡ Some d → BoardSound plan s → BoardSound plan d.state
 step_sound plan acts is t s d makes h =
     record {
+      count = same_count plan acts t s d makes ∙ h.count;
       each = λ bank decl y known after.
           let was = there_before plan acts t s d bank y makes after in
           subst (λ n. BankSound (bank_plan bank decl plan.recs) (suc n) y) (sym (step_does plan acts t s d makes).steps)
@@ -67,9 +70,10 @@ started plan (Some e) bank d x h =
     subst (BankSound (bank_plan bank d plan.recs) 1) (same_Some bank_start x h)
     (start_sound (bank_plan bank d plan.recs) 1)
 
-start_board : (plan : Plan) → BoardSound plan (start_state plan)
+pub start_board : (plan : Plan) → BoardSound plan (start_state plan)
 start_board plan =
     record {
+      count = length-map plan.banks (λ (e : BankDecl). bank_start);
       each = λ bank d x known there.
           started plan (slice_get plan.banks bank) bank d x
           (sym (slice_get-map (λ (e : BankDecl). bank_start) plan.banks bank) ∙ there);

@@ -36,7 +36,7 @@ use Rattle.drain_laws.proofs.Runs.{kept_from_start}
 
 -- ---- A drain's step is of the bank that is due ----
 
-apart_undrained : (n : StepNote) → is_apart n ≡ true → drained_bank n ≡ None
+pub apart_undrained : (n : StepNote) → is_apart n ≡ true → drained_bank n ≡ None
 apart_undrained (note.Scan bank rec) h = absurd (true≢false (sym h))
 apart_undrained (note.Claim bank rec) h = absurd (true≢false (sym h))
 apart_undrained (note.Read bank rec register) h = absurd (true≢false (sym h))
@@ -46,7 +46,7 @@ apart_undrained (note.Signal bank level id) h = absurd (true≢false (sym h))
 apart_undrained n h = refl
 
 -- which bank a bank's note names
-named : (bank b : ℕ) (d : BankDecl) (events : Events) (m : BankNote)
+pub named : (bank b : ℕ) (d : BankDecl) (events : Events) (m : BankNote)
     → drained_bank (bank_note bank d events m) ≡ Some b → bank ≡ b
 named bank b d events (Heard report logged) h = absurd (none-some b h)
 named bank b d events (Acknowledged full) h = absurd (none-some b h)

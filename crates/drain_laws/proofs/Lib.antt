@@ -13,3 +13,8 @@ pub mod BoardSound
 pub mod Showing
 pub mod DueBanks
 pub mod Homes
+pub mod BankRuns
+pub mod Slots
+pub mod Ranks
+pub mod OwnTurns
+pub mod Tries

@@ -9,6 +9,7 @@ ghost use Rattle.board_plan.specs.declared.plan.Plan.{Plan};
 ghost use Rattle.board_plan.specs.Plans.{IsPlan};
 ghost use Rattle.board_plan.specs.Run.{ran};
 ghost use Rattle.board_plan.specs.Sound.{EachCopyIsOfItsRecord, EachDrainIsSound, EachShownPublishedIsUnderInvalidate, EachSignalledAsks};
+ghost use Rattle.board_plan.specs.Blocks.{EachCopyStands, EachSignalledBlockRests, EachSlotIsOfItsNotes};
 
 /// A bank with a signalled record asks for a drain, whatever came in between.
 pub fn each_signalled_asks()
@@ -34,5 +35,24 @@ pub fn each_copy_is_of_its_record()
 /// no error has written the record since, and the drain's next phase is the invalidation.
 pub fn each_shown_published_is_under_invalidate()
     ensures { (plan : Plan) (acts : ℕ → List Act) (tries : List Step) → IsPlan plan → EachShownPublishedIsUnderInvalidate plan (ran plan acts tries).state }
+{
+}
+
+/// A slot holds the copies that were published since the last acknowledgement that found it full (GHESv2's
+/// acknowledgement of an error status block, ACPI 6.5, 18.3.2.8).
+pub fn each_slot_is_of_its_notes()
+    ensures { (plan : Plan) (acts : ℕ → List Act) → IsPlan plan → EachSlotIsOfItsNotes plan acts }
+{
+}
+
+/// A copy stays at its place in the slot until that acknowledgement.
+pub fn each_copy_stands()
+    ensures { (plan : Plan) (acts : ℕ → List Act) → IsPlan plan → EachCopyStands plan acts }
+{
+}
+
+/// A block that was signalled stays as it is until that acknowledgement.
+pub fn each_signalled_block_rests()
+    ensures { (plan : Plan) (acts : ℕ → List Act) → IsPlan plan → EachSignalledBlockRests plan acts }
 {
 }
