@@ -1,0 +1,2 @@
+-- When a run is safe.
+pub mod Safe
