@@ -1,5 +1,5 @@
--- The lines of a report by what is told of a board, and not by the states that it stands for. This project's own, over
--- the texts of the board book; public clauses cite the last four definitions alone.
+-- The lines of a report by what is told of a board, and not by the states that it stands for (describes code). This
+-- project's own, over the texts of the board book; no public clause cites it.
 use Rattle.std.specs.Prelude.{◌≡◌, ℕ, ◌+◌, ◌^◌, ◌<◌, Bool, List, [], ◌∷◌, ◌++◌, map, length, slice_get, IsTrue, Option, Some, None, option_map, codes, decimal}
 use Rattle.ras_text.specs.Numbers.{hexadecimal}
 use Rattle.sse_base.specs.declared.ids.Instance.{Instance}
@@ -16,9 +16,8 @@ use Rattle.board_plan.specs.declared.notes.Fates.{Fates}
 use Rattle.board_plan.specs.declared.plan.BankDecl.{BankDecl}
 use Rattle.board_plan.specs.declared.plan.Plan.{Plan}
 use Rattle.board_plan.specs.State.{BoardState}
-use Rattle.board_plan.specs.Run.{Ran}
 use Rattle.board_plan.specs.Notes.{has_text}
-use Rattle.board_plan.specs.Text.{field, bit_text, scope_text, slot_text, phase_text, head_line, hart_lines, event_line, record_line, block_lines, fates_line, word_lines, schedule_lines, end_line, bytes_of, full_lines, trace_line}
+use Rattle.board_plan.specs.Text.{field, bit_text, scope_text, slot_text, phase_text, head_line, hart_lines, event_line, record_line, block_lines, fates_line, word_lines, schedule_lines, end_line, trace_line}
 use Rattle.board_bank.specs.Standing.{BankParts}
 use Rattle.board_parts.specs.declared.parts.Parts.{Parts}
 use Rattle.board_parts.specs.Shows.{Shows}
@@ -92,10 +91,6 @@ told_full plan parts steps fates =
     ++ word_lines 0x80000000 parts.firmware.memory
     ++ schedule_lines steps
     ++ end_line ∷ []
-
--- the bytes of a run's full report
-unfoldable pub full_bytes : Plan → Ran → List ℕ
-full_bytes plan r = bytes_of (full_lines plan r)
 
 -- they are the parts of the plan's board in some state
 abbrev pub ArePartsOf : Plan → Parts → Type 0

@@ -5,9 +5,10 @@ mod bank_lines;
 mod fields;
 mod hart_lines;
 mod pages;
+mod reports;
 mod run_lines;
 mod run_texts;
 mod walks;
 mod writes;
 
-pub use run_texts::{write_full, write_short, write_trace};
+pub use reports::{report, trace};

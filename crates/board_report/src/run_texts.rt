@@ -1,4 +1,4 @@
-//! Whole texts: the reports and the trace of a run.
+//! Whole texts: the reports and the trace of a run, by its parts.
 
 ghost use Rattle.std.specs.Prelude.{◌≡◌, ◌≤◌, ◌∷◌, [], length, Ok, OnOk};
 ghost use Rattle.ras_io.specs.Causes.{HasCause, Puts};
@@ -7,7 +7,8 @@ ghost use Rattle.board_plan.specs.Fates.{fates_of};
 ghost use Rattle.board_plan.specs.Run.{Ran, steps_of};
 ghost use Rattle.board_plan.specs.Text.{bytes_of, head_line, fates_line, end_line, full_lines};
 ghost use Rattle.board_parts.specs.Shows.{Shows};
-ghost use Rattle.board_report.specs.Told.{ArePartsOf, HaveTexts, full_bytes, told_steps};
+ghost use Rattle.board_report.specs.Reports.{full_bytes};
+ghost use Rattle.board_report.specs.Told.{ArePartsOf, HaveTexts, told_steps};
 ghost use Rattle.board_report.specs.Writing.{SamePages, many};
 
 use crate::pages::Pages;
@@ -88,7 +89,7 @@ fn put_trace<K: Sink>(pages: &mut Pages<'_, K>, steps: &[Step], notes: &[StepNot
 
 /// Writes the short report of a run of so many steps on the board of a plan, whose errors had these fates; each line
 /// is one write. The one fault is the sink's own, of which its count tells; up to there the report was appended.
-pub fn write_short<K: Sink>(
+pub(crate) fn write_short<K: Sink>(
     plan: &Plan,
     steps: u64,
     fates: &Fates,
@@ -110,7 +111,7 @@ pub fn write_short<K: Sink>(
 /// Writes the full report of a run on the board of a plan: the parts are those of that board after the run, and the
 /// steps and fates are the run's. Each line is one write. The one fault is the sink's own, of which its count tells;
 /// up to there the report was appended.
-pub fn write_full<K: Sink>(
+pub(crate) fn write_full<K: Sink>(
     plan: &Plan,
     parts: &Parts,
     steps: &[Step],
@@ -137,7 +138,7 @@ pub fn write_full<K: Sink>(
 
 /// Writes the trace of a run by its steps and their notes, which have texts; each line is one write. The one fault is
 /// the sink's own, of which its count tells; up to there the trace was appended.
-pub fn write_trace<K: Sink>(
+pub(crate) fn write_trace<K: Sink>(
     steps: &[Step],
     notes: &[StepNote],
     sink: &mut K,

@@ -4,7 +4,8 @@ use Rattle.ras_io.proofs.Puts.{Puts-same}
 use Rattle.sse_base.specs.Events.{Events, slots}
 use Rattle.sse_base.specs.Machine.{Machine}
 use Rattle.board_plan.specs.Text.{bytes_of, event_line, word_lines}
-use Rattle.board_report.specs.Told.{full_bytes, told_full}
+use Rattle.board_report.specs.Reports.{full_bytes}
+use Rattle.board_report.specs.Told.{told_full}
 use Rattle.board_report.specs.Writing.{Wrote, state_of}
 use Rattle.board_report.proofs.OneMore.{grows-more, grows-same, wrote-of}
 use Rattle.board_report.proofs.Growing.{as-many}
