@@ -2,7 +2,7 @@
 
 ghost use Rattle.std.specs.Prelude.{Some};
 
-use crate::bench::{board_of, played, trace_of, try_steps};
+use crate::bench::{board_of, trace_of, try_steps};
 use board_plan::{Fates, StepNote};
 use reri_fields::Phase;
 use std::test::Fail;
@@ -52,7 +52,10 @@ const TORN_TRACE: &[u8] = b"1 r0 error 0 0 ued 0 1 0x100 0x0 0x0 0x1 = wrote 1
 #[test]
 fn a_torn_copy_is_taken_again(rt: HostRuntime) -> Result<(), Fail> {
     let mut board = board_of(rt.alloc(), TORN)?;
-    let idle = try_steps(&mut board, b"r0 h0 h0 r0 h0 h0 h0 h0 h0 h0 h0 h0 h0 h0 h0 h0 h0 h0 r0");
+    let idle = try_steps(
+        &mut board,
+        b"r0 h0 h0 r0 h0 h0 h0 h0 h0 h0 h0 h0 h0 h0 h0 h0 h0 h0 r0",
+    );
     assert_eq!(rt; idle, 2u64);
     assert_eq!(rt; trace_of(rt.alloc(), &board)?.as_slice(), TORN_TRACE);
     let fates = Fates {
@@ -215,7 +218,10 @@ act 0 error 0 0 ce 1 4 0x2000 6 0 10
 fn a_second_error_waits_for_the_acknowledgement(rt: HostRuntime) -> Result<(), Fail> {
     let mut board = board_of(rt.alloc(), SECOND)?;
     // drained, and then a second one comes while the block is full
-    assert_eq!(rt; try_steps(&mut board, b"r0 h0 h0 h0 h0 h0 h0 h0 h0 h0 r0"), 0u64);
+    assert_eq!(rt;
+        try_steps(&mut board, b"r0 h0 h0 h0 h0 h0 h0 h0 h0 h0 r0"),
+        0u64
+    );
     assert_eq!(rt; board.published().len(), 1);
     let stands = Fates {
         made: 2,
@@ -233,7 +239,10 @@ fn a_second_error_waits_for_the_acknowledgement(rt: HostRuntime) -> Result<(), F
         assert_eq!(rt; board.drain(0), None);
     }
     // the next op, the acknowledgement, and the second drain
-    assert_eq!(rt; try_steps(&mut board, b"h0 h0 h0 h0 h0 h0 h0 h0 h0 h0"), 0u64);
+    assert_eq!(rt;
+        try_steps(&mut board, b"h0 h0 h0 h0 h0 h0 h0 h0 h0 h0 h0"),
+        0u64
+    );
     assert_eq!(rt; try_steps(&mut board, b"h0"), 1u64);
     let drained = Fates {
         made: 2,

@@ -56,7 +56,10 @@ fn a_drain_gathers_two_copies_and_signals_once(rt: HostRuntime) -> Result<(), Fa
         assert_eq!(rt; second.status, 0x20089);
         let bytes = board.slot(0).bytes();
         assert_eq!(rt; bytes.len(), 260);
-        assert_eq!(rt; &bytes[..20], b"\x23\0\0\0\0\0\0\0\0\0\0\0\xf0\0\0\0\x01\0\0\0");
+        assert_eq!(rt;
+            &bytes[..20],
+            b"\x23\0\0\0\0\0\0\0\0\0\0\0\xf0\0\0\0\x01\0\0\0".as_slice()
+        );
     }
     Ok(())
 }
@@ -110,7 +113,10 @@ fn an_acknowledgement_amid_a_drain_empties_the_block(rt: HostRuntime) -> Result<
     if board.plan().banks.as_slice().len() > 0 {
         let bytes = board.slot(0).bytes();
         assert_eq!(rt; bytes.len(), 140);
-        assert_eq!(rt; &bytes[..20], b"\x11\0\0\0\0\0\0\0\0\0\0\0\x78\0\0\0\x01\0\0\0");
+        assert_eq!(rt;
+            &bytes[..20],
+            b"\x11\0\0\0\0\0\0\0\0\0\0\0\x78\0\0\0\x01\0\0\0".as_slice()
+        );
     }
     Ok(())
 }

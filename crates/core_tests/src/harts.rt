@@ -106,6 +106,6 @@ start 2 0x2000 9
 #[test]
 fn a_spent_budget_leaves_no_step(rt: HostRuntime) -> Result<(), Fail> {
     let trace = played(rt.alloc(), BUDGETS, b"h0 h1 h2 h0 h1 h2")?;
-    assert_eq!(rt; trace.as_slice(), b"1 h1 jump 0x1000\n");
+    assert_eq!(rt; trace.as_slice(), b"1 h1 jump 0x1000\n".as_slice());
     Ok(())
 }

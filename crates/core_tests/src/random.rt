@@ -97,7 +97,10 @@ fn the_same_calls_leave_the_same_board(rt: HostRuntime) -> Result<(), Fail> {
         assert_eq!(rt; a.notes(), b.notes());
         assert_eq!(rt; a.published(), b.published());
         assert_eq!(rt; a.fates(), b.fates());
-        assert_eq!(rt; a.firmware().memory().words(), b.firmware().memory().words());
+        assert_eq!(rt;
+            a.firmware().memory().words(),
+            b.firmware().memory().words()
+        );
         let trace = trace_of(rt.alloc(), &a)?;
         assert_eq!(rt; trace.as_slice(), trace_of(rt.alloc(), &b)?.as_slice());
         assert!(rt; a.steps().len() > 200);
