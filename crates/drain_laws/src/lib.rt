@@ -6,10 +6,10 @@ ghost use Rattle.std.specs.Prelude.{ℕ, List};
 ghost use Rattle.ras_device.specs.declared.act.Act.{Act};
 ghost use Rattle.board_plan.specs.declared.notes.Step.{Step};
 ghost use Rattle.board_plan.specs.declared.plan.Plan.{Plan};
-ghost use Rattle.board_plan.specs.Plans.{IsPlan};
+ghost use Rattle.board_plan.specs.Plans.{AreReports, IsPlan};
 ghost use Rattle.board_plan.specs.Run.{ran};
 ghost use Rattle.board_plan.specs.Sound.{EachCopyIsOfItsRecord, EachDrainIsSound, EachShownPublishedIsUnderInvalidate, EachSignalledAsks};
-ghost use Rattle.board_plan.specs.Blocks.{EachCopyStands, EachSignalledBlockRests, EachSlotIsOfItsNotes};
+ghost use Rattle.board_plan.specs.Blocks.{AreAtMostTwelveClaims, EachCopyStands, EachSignalledBlockRests, EachSlotIsOfItsNotes, EachTornCheckRises};
 
 /// A bank with a signalled record asks for a drain, whatever came in between.
 pub fn each_signalled_asks()
@@ -54,5 +54,18 @@ pub fn each_copy_stands()
 /// A block that was signalled stays as it is until that acknowledgement.
 pub fn each_signalled_block_rests()
     ensures { (plan : Plan) (acts : ℕ → List Act) → IsPlan plan → EachSignalledBlockRests plan acts }
+{
+}
+
+/// From the Scan that finds a record to the Check that publishes it, a drain makes at most twelve claims, where no
+/// report has a priority above 3.
+pub fn at_most_twelve_claims()
+    ensures { (plan : Plan) (acts : ℕ → List Act) → IsPlan plan → AreReports acts → AreAtMostTwelveClaims plan acts }
+{
+}
+
+/// Between a claim and the torn Check of that try the record came to hold an error of strictly greater rank.
+pub fn each_torn_check_rises()
+    ensures { (plan : Plan) (acts : ℕ → List Act) → IsPlan plan → EachTornCheckRises plan acts }
 {
 }
