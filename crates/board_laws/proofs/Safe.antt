@@ -16,7 +16,7 @@ use Rattle.context_laws.proofs.Following.{is_amended}
 use Rattle.drain_laws.proofs.Showing.{each_signalled_asks, each_copy_is_of_its_record, each_shown_published_is_under_invalidate}
 use Rattle.drain_laws.proofs.Homes.{each_drain_is_sound}
 use Rattle.drain_laws.proofs.Slots.{each_slot_is_of_its_notes, each_copy_stands, each_signalled_block_rests}
-use Rattle.drain_laws.proofs.Claiming.{are_claims_bounded}
+use Rattle.drain_laws.proofs.Tries.{at_most_twelve_claims, each_torn_check_rises}
 use Rattle.fate_laws.proofs.Closing.{each_error_has_one_fate, each_drained_was_published}
 use Rattle.board_laws.specs.Safe.{IsRunSafe}
 
@@ -46,6 +46,10 @@ are_blocks_kept plan acts is =
       signalled = each_signalled_block_rests plan acts is;
       drained = each_drained_was_published plan acts;
     }
+
+are_claims_bounded : (plan : Plan) (acts : ℕ → List Act) → IsPlan plan → AreReports acts → AreClaimsBounded plan acts
+are_claims_bounded plan acts is reports =
+    record { twelve = at_most_twelve_claims plan acts is reports; torn = each_torn_check_rises plan acts is }
 
 pub each_run_is_safe : EachRunIsSafe
 each_run_is_safe plan acts is =
