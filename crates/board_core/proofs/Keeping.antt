@@ -254,7 +254,7 @@ one_reported [] a reports last (suc i) report is = absurd (none-some (act.Error 
 one_reported (x ∷ xs) a reports last zero report is = reports zero report is
 one_reported (x ∷ xs) a reports last (suc i) report is = one_reported xs a (λ j. reports (suc j)) last i report is
 
-reports_on : (r : ℕ) (a : Act) (b : Played) → r < length b.acts → AreReports (acts_of b) → IsReport (Some a)
+pub reports_on : (r : ℕ) (a : Act) (b : Played) → r < length b.acts → AreReports (acts_of b) → IsReport (Some a)
     → AreReports (acts_of (with_act r a b))
 reports_on r a b there reports last k i report =
     elim (cases_eq k r)

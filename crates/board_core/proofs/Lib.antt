@@ -4,3 +4,4 @@ pub mod Keeping
 pub mod Onward
 pub mod Spent
 pub mod Steps
+pub mod Safe

@@ -12,6 +12,7 @@ use Rattle.board_plan.specs.Plans.{IsPlan, AreReports, most_steps}
 use Rattle.board_plan.specs.State.{BoardState}
 use Rattle.board_plan.specs.Step.{Stepped, hart_step, reporter_step, acts_made}
 use Rattle.board_plan.specs.Run.{Ran, ran, steps_of, lists}
+use Rattle.board_laws.specs.Safe.{IsRunSafe}
 pub use Rattle.board_parts.specs.Came.{IsReport}
 
 -- the plan, the acts that each reporter has made and the steps that were made, the oldest first
@@ -107,3 +108,8 @@ pub record IsPlayed (b : Played) : Type 0 where
       → acts_of b r ≡ take (length (acts_of b r)) d.acts
   -- each error that was made has a priority below 4
   pub reports : AreReports (acts_of b)
+
+-- The board's own run is safe: the nine facts at each of its states, amended contexts, blocks that stand, and at most
+-- twelve claims.
+abbrev pub IsSafe : Played → Type 0
+IsSafe b = IsRunSafe b.plan (acts_of b) b.steps

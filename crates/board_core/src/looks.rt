@@ -8,7 +8,7 @@ ghost use Rattle.board_plan.specs.Plans.{most_steps};
 ghost use Rattle.board_plan.specs.State.{bank_plan, counts_of};
 ghost use Rattle.board_plan.specs.Fates.{fates_of};
 ghost use Rattle.board_parts.specs.Shows.{Shows};
-ghost use Rattle.board_core.specs.Played.{IsPlayed, own_run, state_of};
+ghost use Rattle.board_core.specs.Played.{IsPlayed, IsSafe, own_run, state_of};
 
 use crate::board::Board;
 use board_parts::Parts;
@@ -32,6 +32,7 @@ impl Board {
     pub fn steps(&self) -> &[Step]
         ensures steps { result.now ≡ self.now.steps }
         ensures played { IsPlayed self.now }
+        ensures safe { IsSafe self.now }
     {
         self.log.steps.items.as_slice()
     }

@@ -3,7 +3,7 @@
 ghost use Rattle.std.specs.Prelude.{◌≡◌, ◌≤◌, [], IfOk, map, sum_by};
 ghost use Rattle.board_plan.specs.Plans.{IsPlan, most_steps};
 ghost use Rattle.board_core.specs.Inside.{acts_in, rooms_in};
-ghost use Rattle.board_core.specs.Played.{AreListsReports, fresh};
+ghost use Rattle.board_core.specs.Played.{AreListsReports, IsSafe, fresh};
 
 use crate::board::Board;
 use crate::kept::Kept;
@@ -65,7 +65,8 @@ impl Board {
     pub fn new(alloc: Global, plan: &Plan) -> Result<Board, NoMemory>
         requires plan { IsPlan plan.now }
         requires reports { AreListsReports plan.now }
-        ensures { IfOk result (λ b. b ≡ fresh plan.now) }
+        ensures fresh { IfOk result (λ b. b ≡ fresh plan.now) }
+        ensures safe { IfOk result (λ b. IsSafe b) }
     {
         let parts = Parts::new(alloc, plan)?;
         let acts = no_acts(alloc, plan.reporters.as_slice())?;

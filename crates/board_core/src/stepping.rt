@@ -2,7 +2,7 @@
 
 ghost use Rattle.std.specs.Prelude.{◌≡◌, ◌<◌, true, length};
 ghost use Rattle.board_plan.specs.Step.{hart_step, reporter_step};
-ghost use Rattle.board_core.specs.Played.{IsReport, after_hart, after_reporter, is_list, listed, note_of, state_of};
+ghost use Rattle.board_core.specs.Played.{IsReport, IsSafe, after_hart, after_reporter, is_list, listed, note_of, state_of};
 
 use crate::board::Board;
 use board_plan::{Step, StepNote};
@@ -15,6 +15,7 @@ impl Board {
         requires { hart < self.old.plan.harts }
         ensures next { self.new ≡ after_hart hart self.old }
         ensures note { result ≡ note_of (hart_step hart self.old.plan (state_of self.old)) }
+        ensures safe { IsSafe self.new }
     {
         let Some(outcome) = self.parts.hart_step(hart) else {
             return StepNote::Idle;
@@ -33,8 +34,11 @@ impl Board {
         requires report { IsReport act }
         ensures next { self.new ≡ after_reporter reporter act self.old }
         ensures note { result ≡ note_of (reporter_step reporter self.old.plan act (state_of self.old)) }
+        ensures safe { IsSafe self.new }
     {
         let Some(next) = act else {
+            // the run stays as it is, and so does what the board says of it
+            let _steps = self.steps();
             return StepNote::Idle;
         };
         let Some(outcome) = self.parts.reporter_step(reporter, Some(next)) else {

@@ -3,6 +3,7 @@ use Rattle.std.proofs.Common.{ap, ◌∙◌, map, subst}
 use Rattle.board_plan.specs.declared.plan.Reporter.{Reporter}
 use Rattle.board_core.specs.Rooms.{HasRoom}
 use Rattle.board_core.proofs.Onward.{fresh_board, no_act}
+use Rattle.board_core.proofs.Safe.{is_safe}
 use Rattle.board_core.proofs.board.Board.new.Goals as goal
 
 pub invariant_of-result : goal.invariant_of-result
@@ -13,3 +14,6 @@ invariant_of-result c =
     c.in_ok-log.ensures.steps c.in_ok-log.ensures.notes c.in_ok-log.ensures.published
     (subst (λ n. HasRoom n c.in_ok-log.log) c.most_steps.ensures c.in_ok-log.ensures.room)
     (c.new-3.ensures c.args.plan.now c.requires.plan)
+
+pub returns-clause-safe : goal.returns-clause-safe
+returns-clause-safe c = is_safe _ (invariant_of-result c).keeps.played

@@ -4,8 +4,9 @@ use Rattle.std.specs.Vec.{with_item}
 use Rattle.board_plan.specs.Step.{reporter_step}
 use Rattle.board_core.specs.declared.board.Board.TheInside.{Inside}
 use Rattle.board_core.specs.Inside.{played}
-use Rattle.board_core.specs.Played.{IsReport, Played, after_reporter, is_list, listed, note_of, state_of}
+use Rattle.board_core.specs.Played.{IsReport, IsSafe, Played, after_reporter, is_list, listed, note_of, state_of}
 use Rattle.board_core.proofs.Onward.{act_board, act_fits, act_has_place, act_is, act_next, act_note, idle_board, no_act_idle}
+use Rattle.board_core.proofs.Safe.{act_safe, is_safe}
 use Rattle.board_core.proofs.board.Board.reporter_step.Goals as goal
 
 pub returns-in_default-clause-note : goal.returns-in_default-clause-note
@@ -117,3 +118,35 @@ returns-clause-note c =
     act_note x r a c.reporter_step.new.self c.in-Some-reporter_step.outcome steps
     ∙ ap (λ (b : Played). note_of (reporter_step r b.plan (Some a) (state_of b))) c.self.view_is
     ∙ ap (λ b. note_of (reporter_step r c.args.self.now.plan b (state_of c.args.self.now))) (sym c.in-Some.is)
+
+pub returns-in_default-reporter_step-clause-safe : goal.returns-in_default-reporter_step-clause-safe
+returns-in_default-reporter_step-clause-safe c = is_safe (played c.self.inside) c.self.invariant.keeps.played
+
+pub returns-clause-safe : goal.returns-clause-safe
+returns-clause-safe c =
+    let x = c.self.inside in
+    let r = c.args.reporter in
+    let a = c.in-Some.next in
+    let low : r < length x.plan.reporters =
+    omega (arith, c.requires.there, ap (λ (b : Played). length b.plan.reporters) c.self.view_is) in
+    let kept = c.keep.ensures in
+    let y : Inside =
+    record {
+      plan = x.plan;
+      parts = c.reporter_step.new.self;
+      acts = with_item x.acts r c.push.new.self;
+      log = c.keep.new.self;
+      tally = c.count.new.self;
+    } in
+    subst IsSafe
+    (sym (act_is x y r a c.in-Some-reporter_step.outcome low c.self.invariant refl
+    (record {
+      old = c.index_mut.result.now;
+      new = c.push.new.self;
+      read = c.index_mut.ensures.value;
+      items = c.push.ensures.items;
+      room = c.push.ensures.room;
+      acts = refl;
+    })
+    (record { steps = kept.steps; notes = kept.notes; published = kept.published; room = kept.room })))
+    (act_safe r a (played x) c.self.invariant.keeps.played low (subst IsReport c.in-Some.is c.requires.report))
