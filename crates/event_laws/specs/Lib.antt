@@ -1,3 +1,3 @@
--- What more holds of the handlers of harts in every run.
+-- What more holds of events and their handlers in every run.
 pub mod Depth
 pub mod Pending
