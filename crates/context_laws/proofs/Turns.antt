@@ -149,7 +149,8 @@ module _ (h : ℕ) (r : Reach) (tidy : AreTidy h r.stack.frames) (size : length 
       (λ (q : Reach) (n : StepNote). Tells h n r.stack q.stack)
   hart_tells plan stacks means =
       record {
-        drains = λ n drains. quietly r.stack n (drains_quiet n drains) (λ id e. drains_begin_nothing n id drains e) refl refl;
+        drains = λ n drains.
+            quietly r.stack n (drains_quiet n drains) (λ id e. drains_begin_nothing n id drains e) refl refl;
         signals = λ bank level d known.
             quietly r.stack (note.Signal bank level (event_signalled d r.events level))
             (record { ids = λ is. refl; amends = λ e is k. refl; no_completion = refl }) (λ id e. cc) refl refl;
@@ -164,7 +165,8 @@ module _ (h : ℕ) (r : Reach) (tidy : AreTidy h r.stack.frames) (size : length 
           plain = λ n pc memory plain.
               quietly (with_pc pc next) n (plain_quiet n plain) (λ id e. plain_begins_nothing n id plain e) refl refl;
           sets = λ reg value.
-              only h (note.Set reg value) r.stack (set_register reg value next) (amends_set reg value next) (λ id e. cc);
+              only h (note.Set reg value) r.stack (set_register reg value next) (amends_set reg value next)
+              (λ id e. cc);
           loads = λ reg word.
               (let s = set_register reg word next in
               only h (note.Load reg (register reg s)) r.stack s (amends_load reg word next) (λ id e. cc));

@@ -195,9 +195,10 @@ written_frame h id base words d fs b f all once there =
     let k = f.saved in
     let owned : is_id id (at_depth d is) ≡ own = known_by_id h id d fs all ∙ ap (is_at at) there in
     let lows : is_id id (at_depth (suc d) is) ≡ low = known_by_id h id (suc d) fs all in
-    own_at_depth at (with_interrupted_words base words) d gs (lowered (with_interrupted_triple base words) low f)
-    (subst (λ (xs : List Instance). times at xs ≤ 1) (sym (below_ats at (with_interrupted_triple base words) fs b)) once)
-    (below_at_depth at (with_interrupted_triple base words) d fs b f once there)
+    let g = with_interrupted_triple base words in
+    own_at_depth at (with_interrupted_words base words) d gs (lowered g low f)
+    (subst (λ (xs : List Instance). times at xs ≤ 1) (sym (below_ats at g fs b)) once)
+    (below_at_depth at g d fs b f once there)
     ∙ ap (λ c. Some (record { at = f.at; saved = c })) (in_either_order base words own low k
     ∙ sym (rw (owned, lows) refl))
 
