@@ -24,7 +24,7 @@ use Rattle.board_plan.specs.Run.{Noted, run, notes, ran}
 use Rattle.board_plan.specs.Plans.{IsPlan, AreReports}
 use Rattle.board_plan.specs.Fates.{origin_in}
 use Rattle.board_plan.specs.Sound.{drained_bank, has_record}
-use Rattle.board_plan.specs.Blocks.{publishes_on, claims_on, some_note, number_of_notes, AreAtMostTwelveClaims, EachTornCheckRises}
+use Rattle.board_plan.specs.Blocks.{publishes_on, claims_on, some_note, number_of_notes, AreAtMostTwelveClaims, EachTornCheckRises, AreClaimsBounded}
 use Rattle.drain_laws.proofs.BankMoves.{Moves, IsDue, is_reading, is_read_to}
 use Rattle.drain_laws.proofs.BankMoves.IsDue.{goes_on, begins}
 use Rattle.drain_laws.proofs.BankMoves.Moves.{reports, acks, finds_none, finds, claims, reads, tears, publishes, clears, signals}
@@ -581,3 +581,9 @@ each_torn_check_rises plan acts is =
       ap (λ (b : BankState). top origin rec b.history) y_is,
       ap (λ (b : BankState). top origin rec b.history) x_is,
     )
+
+-- both
+pub are_claims_bounded : (plan : Plan) (acts : ℕ → List Act) → IsPlan plan → AreReports acts
+    → AreClaimsBounded plan acts
+are_claims_bounded plan acts is are =
+    record { twelve = at_most_twelve_claims plan acts is are; torn = each_torn_check_rises plan acts is }
