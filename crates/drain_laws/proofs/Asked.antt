@@ -1,10 +1,9 @@
 -- A bank with a signalled record asks: every event of a bank keeps this, and an empty search where it is truly empty.
-use Rattle.std.proofs.Common.{◌≡◌, ◌≢◌, ℕ, nat_lt, Bool, true, false, ◌||◌, cond, List, [], ◌∷◌, ◌++◌, length, find, slice_get, Option, Some, None, refl, inl, inr, sym, ap, ◌∙◌, subst}
+use Rattle.std.proofs.Common.{◌≡◌, ℕ, nat_lt, Bool, true, false, ◌||◌, List, [], ◌∷◌, slice_get, Option, Some, None, refl, inl, inr, sym, ap, ◌∙◌, subst}
 use Rattle.std.specs.Option.{option_map_or}
 use Rattle.std.proofs.lemmas.Bool.{cases_Bool, cases_eq, true≢false, or_left, or_right}
 use Rattle.reri_fields.specs.Fields.{control_fields, level_of}
 use Rattle.reri_fields.specs.Records.{Error, Event, Origin, is_any, shown, is_counted, is_logged, since}
-use Rattle.reri_fields.specs.Records.Event.{Reported}
 use Rattle.reri_fields.specs.Outcome.{outcome, wrote}
 use Rattle.reri_fields.specs.Banks.{AllLogsBefore, BankEvent, events_of, level_in, raised, asks, level_after, is_signalled_after}
 use Rattle.reri_fields.specs.Banks.BankEvent.{Logs, Claims, Invalidates, ScanOver}

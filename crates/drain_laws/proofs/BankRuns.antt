@@ -1,9 +1,9 @@
 -- A run of a board as one of its banks sees it.
-use Rattle.std.proofs.Common.{◌≡◌, ℕ, suc, ◌<◌, Bool, true, false, ◌==◌, List, [], ◌∷◌, length, slice_get, Option, Some, None, refl, sym, ap, ◌∙◌, subst, arith}
+use Rattle.std.proofs.Common.{◌≡◌, ℕ, suc, ◌<◌, false, List, [], ◌∷◌, slice_get, Option, Some, None, refl, sym, ◌∙◌, subst, arith}
 use Rattle.std.proofs.lemmas.Option.{same_Some, slice_get_within}
 use Rattle.sse_base.specs.Events.{Events}
 use Rattle.reri_fields.specs.Banks.{AllLogsBefore}
-use Rattle.reri_fields.specs.Drain.{BankPlan, BankState, BankTry, BankNote}
+use Rattle.reri_fields.specs.Drain.{BankState, BankTry, BankNote}
 use Rattle.reri_fields.specs.Drain.BankTry.{Reports, Drains, Acknowledges}
 use Rattle.reri_bank.proofs.Stands.{get_there}
 use Rattle.ras_device.specs.declared.act.Act.{Act}
@@ -18,7 +18,6 @@ use Rattle.board_plan.specs.Run.{Noted, state_after, noted, run, notes}
 use Rattle.board_plan.specs.Plans.{IsPlan, AreReports}
 use Rattle.drain_laws.proofs.BankMoves.{Moves}
 use Rattle.drain_laws.proofs.BoardMoves.{Comes}
-use Rattle.drain_laws.proofs.BankSound.{BankSound}
 use Rattle.drain_laws.proofs.BoardSound.{BoardSound, step_sound}
 use Rattle.drain_laws.proofs.Turns.{is_of, Turn, TakesTurn, turn_of, there_after}
 use Rattle.drain_laws.proofs.Turns.Turn.{rests, takes}
@@ -55,11 +54,10 @@ fit_for : (plan : Plan) (acts : ℕ → List Act) (t : Step) (s : BoardState) (b
 fit_for plan acts (Hart h) s bank x (Reports e) early by = absurd by
 fit_for plan acts (Hart h) s bank x Drains early by = tt
 fit_for plan acts (Hart h) s bank x Acknowledges early by = tt
-fit_for plan acts (Reporter r) s bank x (Reports e) early by =
-    (
-      subst (λ k. AllLogsBefore k x.history) (sym by.0) early,
-      λ are. are r (acts_made r s) e.report by.2,
-    )
+fit_for plan acts (Reporter r) s bank x (Reports e) early by = (
+  subst (λ k. AllLogsBefore k x.history) (sym by.0) early,
+  λ are. are r (acts_made r s) e.report by.2,
+)
 fit_for plan acts (Reporter r) s bank x Drains early by = absurd by
 fit_for plan acts (Reporter r) s bank x Acknowledges early by = absurd by
 

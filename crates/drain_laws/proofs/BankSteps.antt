@@ -1,31 +1,31 @@
 -- Each step of a bank keeps it sound.
-use Rattle.std.proofs.Common.{◌≡◌, ◌≢◌, ℕ, zero, suc, ◌<◌, ◌≤◌, ◌==◌, nat_lt, max, Bool, true, false, cond, List, [], ◌∷◌, ◌++◌, length, find, slice_get, Option, Some, None, refl, inl, inr, sym, ap, ◌∙◌, subst, arith}
+use Rattle.std.proofs.Common.{◌≡◌, ℕ, suc, ◌<◌, ◌≤◌, ◌==◌, nat_lt, max, Bool, true, false, cond, List, [], ◌∷◌, ◌++◌, length, find, slice_get, Some, None, refl, inl, inr, sym, ap, ◌∙◌, subst, arith}
 use Rattle.std.proofs.lemmas.Bool.{cases_Bool, cases_eq, true≢false, ltb-true}
 use Rattle.std.proofs.lemmas.Option.{none-some, same_Some}
 use Rattle.reri_fields.specs.declared.report.RecordCopy.{RecordCopy}
 use Rattle.reri_fields.specs.declared.drain.Phase.{Phase}
 use Rattle.reri_fields.specs.declared.drain.Phase.TheVariants.{Scan, Claim, Address, Info, Supplement, Time, Check, Invalidate, Signal}
 use Rattle.reri_fields.specs.Records.{Error, Origin, is_any, shown, since}
-use Rattle.reri_fields.specs.Banks.{AllLogsBefore, BankEvent, asks, events_of, least_signalled, is_signalled_after, copy_level}
+use Rattle.reri_fields.specs.Banks.{AllLogsBefore, BankEvent, events_of, least_signalled, is_signalled_after, copy_level}
 use Rattle.reri_fields.specs.Banks.BankEvent.{Logs, Claims, Invalidates, ScanOver}
-use Rattle.reri_fields.specs.Drain.{BankPlan, BankState, BankTry, BankNote, Draining, Publication, bank_start, reported, acknowledged, scanned, claimed, goes_to, torn, published, publication, invalidated, after_invalidate, after_empty_scan, signalled, fresh_drain, is_free, errors_at, claimed_at}
+use Rattle.reri_fields.specs.Drain.{BankPlan, BankState, BankTry, BankNote, Draining, Publication, bank_start, reported, acknowledged, scanned, claimed, goes_to, published, publication, invalidated, after_invalidate, signalled, errors_at, claimed_at}
 use Rattle.reri_fields.specs.Drain.BankTry.{Reports, Drains, Acknowledges}
 use Rattle.reri_log.proofs.Errors.{StepsBelow, found_before}
 use Rattle.reri_log.proofs.Histories.{is_any-push, since_before}
 use Rattle.reri_bank.proofs.Stands.{before_events}
-use Rattle.board_plan.specs.Sound.{has_record, comes_to_publish, newest_copies, greatest_level, IsValidAt}
-use Rattle.drain_laws.proofs.Held.{Enters, logs_at, errors_claimed, claim_counts, errors_elsewhere, errors_cleared, errors_stood, errors_scanned}
+use Rattle.board_plan.specs.Sound.{has_record, comes_to_publish, newest_copies, IsValidAt}
+use Rattle.drain_laws.proofs.Held.{Enters, logs_at, errors_claimed, errors_elsewhere, errors_cleared, errors_stood, errors_scanned}
 use Rattle.drain_laws.proofs.Held.Enters.{passes_by, writes, keeps_out}
-use Rattle.drain_laws.proofs.Asked.{IsAsked, signalled_any, signalled as is_signalled, asked_log, asked_claim, asked_invalidate, asked_over}
+use Rattle.drain_laws.proofs.Asked.{signalled_any, signalled as is_signalled, asked_log, asked_claim, asked_invalidate, asked_over}
 use Rattle.drain_laws.proofs.Found.{least_signals, none_signals}
 use Rattle.drain_laws.proofs.Past.{Past, Stays, past_enters, stays_enters}
-use Rattle.drain_laws.proofs.Past.Past.{gone, buried}
+use Rattle.drain_laws.proofs.Past.Past.{gone}
 use Rattle.drain_laws.proofs.Past.Stays.{still, past}
 use Rattle.drain_laws.proofs.Copies.{level_push, free_is_empty, length_push, newest_push}
 use Rattle.drain_laws.proofs.BankMoves.{Moves, IsDue, is_reading, is_read_to}
 use Rattle.drain_laws.proofs.BankMoves.IsDue.{goes_on, begins}
 use Rattle.drain_laws.proofs.BankMoves.Moves.{reports, acks, finds_none, finds, claims, reads, tears, publishes, clears, signals}
-use Rattle.drain_laws.proofs.BankSound.{is_invalidate, Settled, Standing, Each, each_map, JustPublished, PublishedIf, PublishedIn, Fits, BankSound, KeepsPast, KeepsStanding, KeepsAny, all_settled, published_later, valid_later, fits_later, sound_later}
+use Rattle.drain_laws.proofs.BankSound.{is_invalidate, Settled, Standing, Each, JustPublished, PublishedIf, PublishedIn, Fits, BankSound, KeepsPast, KeepsAny, all_settled, published_later, valid_later, fits_later, sound_later}
 
 -- ---- An error ----
 
@@ -294,8 +294,7 @@ published_now origins n s rec origin early there on =
     record {
       rec_is = refl;
       stays = λ o q here is.
-          let same : o ≡ origin = same_Some o origin (sym here ∙ there) in
-          (
+          let same : o ≡ origin = same_Some o origin (sym here ∙ there) in (
             shown_early n origin rec s.history q early is,
             still (ap (λ (x : Origin). claimed_at x rec s.history) same ∙ on)
                 (ap (λ (x : Origin). shown (errors_at x rec s.history)) same ∙ is),
@@ -369,8 +368,7 @@ settled_now : (origins : List Origin) (n rec : ℕ) (history : List BankEvent) (
 settled_now origins n rec history p h =
     record {
       past = λ o q there is.
-          let so = h.stays o q there is in
-          (
+          let so = h.stays o q there is in (
             so.0,
             subst (λ k. Past q (errors_at o p.rec (Invalidates k ∷ history))) h.rec_is
                 (stayed o p.rec history q so.1),
@@ -380,8 +378,7 @@ settled_now origins n rec history p h =
 all_cleared : (origins : List Origin) (n rec : ℕ) (history : List BankEvent) (ps : List Publication)
     → JustPublished origins n history ps rec → Each (Settled origins n (Invalidates rec ∷ history)) ps
 all_cleared origins n rec history ps h =
-    subst (Each (Settled origins n (Invalidates rec ∷ history))) (sym h.are)
-    (
+    subst (Each (Settled origins n (Invalidates rec ∷ history))) (sym h.are) (
       settled_now origins n rec history h.latest h.newest,
       all_settled origins n n history (Invalidates rec ∷ history) h.older (omega arith)
           (clear_keeps n rec history) h.rest,

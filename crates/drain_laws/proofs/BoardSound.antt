@@ -1,13 +1,9 @@
 -- Each bank of a board is sound at each state of each run.
-use Rattle.std.proofs.Common.{◌≡◌, ℕ, suc, ◌<◌, ◌≤◌, List, length, map, slice_get, Option, Some, None, refl, sym, ap, ◌∙◌, subst, arith}
+use Rattle.std.proofs.Common.{◌≡◌, ℕ, suc, ◌≤◌, List, length, slice_get, Option, Some, None, sym, ◌∙◌, subst, arith}
 use Rattle.std.specs.Option.{option_map}
 use Rattle.std.proofs.lemmas.List.{length-map}
 use Rattle.std.proofs.lemmas.Option.{none-some, same_Some, slice_get-map}
-use Rattle.reri_fields.specs.declared.report.Report.{Report}
-use Rattle.reri_fields.specs.Records.{Error, Origin}
-use Rattle.reri_fields.specs.Banks.{BankEvent}
-use Rattle.reri_fields.specs.Banks.BankEvent.{Logs, Claims, Invalidates, ScanOver}
-use Rattle.reri_fields.specs.Drain.{BankPlan, BankState, BankTry, BankNote, bank_start}
+use Rattle.reri_fields.specs.Drain.{BankState, BankTry, bank_start}
 use Rattle.reri_fields.specs.Drain.BankTry.{Reports, Drains, Acknowledges}
 use Rattle.ras_device.specs.declared.act.Act.{Act}
 use Rattle.board_plan.specs.declared.notes.Step.{Step}
@@ -21,7 +17,7 @@ use Rattle.board_plan.specs.Plans.{IsPlan}
 use Rattle.drain_laws.proofs.BoardMoves.{Comes, step_does}
 use Rattle.drain_laws.proofs.BankSound.{BankSound, sound_later}
 use Rattle.drain_laws.proofs.BankSteps.{IsNow, moves_sound, start_sound}
-use Rattle.drain_laws.proofs.Turns.{Turn, TakesTurn, turn_of, same_count, there_before}
+use Rattle.drain_laws.proofs.Turns.{Turn, turn_of, same_count, there_before}
 use Rattle.drain_laws.proofs.Turns.Turn.{rests, takes}
 use Rattle.drain_laws.proofs.Runs.{kept, kept_from_start}
 

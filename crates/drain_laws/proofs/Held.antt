@@ -2,7 +2,7 @@
 use Rattle.std.proofs.Common.{◌≡◌, ◌≢◌, ℕ, ◌<◌, ◌≤◌, Bool, true, false, List, [], ◌∷◌, ◌++◌, Some, refl, inl, inr, sym, ap, ◌∙◌}
 use Rattle.std.proofs.lemmas.Bool.{cases_eq}
 use Rattle.reri_fields.specs.Records.{Error, Event, Origin, rank_of, greatest_of, is_any, shown, since, in_progress}
-use Rattle.reri_fields.specs.Records.Event.{Reported, Claimed, Invalidated}
+use Rattle.reri_fields.specs.Records.Event.{Claimed, Invalidated}
 use Rattle.reri_fields.specs.Banks.{AllLogsBefore, BankEvent, events_of}
 use Rattle.reri_fields.specs.Banks.BankEvent.{Logs, Claims, Invalidates, ScanOver}
 use Rattle.reri_fields.specs.Drain.{errors_at, claimed_at}

@@ -1,13 +1,13 @@
--- Drains are sound: the hart that makes a drain's steps is the bank's home, it has one drain at a time, and the slot was
--- free when it began.
-use Rattle.std.proofs.Common.{◌≡◌, ◌⊎◌, ℕ, suc, ◌<◌, Bool, true, false, List, [], map, slice_get, Option, Some, None, refl, inl, inr, sym, ap, ◌∙◌, subst, arith}
+-- Drains are sound: the hart that makes a drain's steps is the bank's home, it has one drain at a time, and the slot
+-- was free when it began.
+use Rattle.std.proofs.Common.{◌≡◌, ◌⊎◌, ℕ, suc, true, List, slice_get, Option, Some, None, refl, inl, inr, sym, ap, ◌∙◌, subst}
 use Rattle.std.specs.Option.{option_map}
 use Rattle.std.proofs.lemmas.Bool.{true≢false}
 use Rattle.std.proofs.lemmas.Option.{none-some, same_Some, slice_get-map}
 use Rattle.sse_base.specs.Events.{Events}
 use Rattle.reri_fields.specs.declared.drain.DrainNote.TheVariants as drain
 use Rattle.reri_fields.specs.Drain.{BankPlan, BankState, BankTry, BankNote, Draining, bank_start}
-use Rattle.reri_fields.specs.Drain.BankTry.{Reports, Drains, Acknowledges}
+use Rattle.reri_fields.specs.Drain.BankTry.{Drains}
 use Rattle.reri_fields.specs.Drain.BankNote.{Heard, Drew, Acknowledged}
 use Rattle.ras_device.specs.declared.act.Act.{Act}
 use Rattle.board_plan.specs.declared.notes.Published.{Published}
@@ -18,19 +18,19 @@ use Rattle.board_plan.specs.declared.notes.StepNote.TheVariants as note
 use Rattle.board_plan.specs.declared.plan.BankDecl.{BankDecl}
 use Rattle.board_plan.specs.declared.plan.Plan.{Plan}
 use Rattle.board_plan.specs.State.{BoardState, bank_plan, start_state}
-use Rattle.board_plan.specs.Step.{Stepped, bank_note, bank_due, is_draining, step}
+use Rattle.board_plan.specs.Step.{Stepped, bank_note, bank_due, step}
 use Rattle.board_plan.specs.Run.{ran}
 use Rattle.board_plan.specs.Plans.{IsPlan}
-use Rattle.board_plan.specs.Sound.{EachDrainIsSound, IsDrainSound, IsThere, drained_bank, origins_of}
+use Rattle.board_plan.specs.Sound.{EachDrainIsSound, IsDrainSound, IsThere, drained_bank}
 use Rattle.drain_laws.proofs.BankMoves.{Moves, moves}
 use Rattle.drain_laws.proofs.BankMoves.Moves.{reports, acks, finds_none, finds, claims, reads, tears, publishes, clears, signals}
-use Rattle.drain_laws.proofs.BoardMoves.{is_apart, AtBank, Touches, Comes, step_does}
+use Rattle.drain_laws.proofs.BoardMoves.{is_apart, Touches, Comes, step_does}
 use Rattle.drain_laws.proofs.BoardMoves.Touches.{apart, at}
-use Rattle.drain_laws.proofs.BankSound.{BankSound, Fits}
+use Rattle.drain_laws.proofs.BankSound.{BankSound}
 use Rattle.drain_laws.proofs.BoardSound.{ran_sound}
 use Rattle.drain_laws.proofs.Copies.{free_is_empty}
 use Rattle.drain_laws.proofs.DueBanks.{IsDueBank, Begins, due_bank, due_home, due_begins, drains_on}
-use Rattle.drain_laws.proofs.Turns.{Turn, TakesTurn, turn_of, there_before}
+use Rattle.drain_laws.proofs.Turns.{Turn, turn_of, there_before}
 use Rattle.drain_laws.proofs.Turns.Turn.{rests, takes}
 use Rattle.drain_laws.proofs.Runs.{kept_from_start}
 

@@ -1,5 +1,5 @@
 -- A step whose note names a bank that was drained is that bank's own.
-use Rattle.std.proofs.Common.{◌≡◌, ℕ, List, slice_get, Option, Some, None, refl, sym, ap, ◌∙◌, subst}
+use Rattle.std.proofs.Common.{◌≡◌, ℕ, List, slice_get, Some, sym, ap, ◌∙◌, subst}
 use Rattle.std.proofs.lemmas.Option.{none-some, slice_get_within}
 use Rattle.reri_fields.specs.Drain.{BankState}
 use Rattle.reri_bank.proofs.Stands.{get-set_same}

@@ -1,5 +1,5 @@
 -- Where each report has a priority below 4, no error that a record holds has a rank above 11.
-use Rattle.std.proofs.Common.{◌≡◌, ℕ, suc, ◌<◌, ◌≤◌, ◌==◌, ◌+◌, ◌*◌, max, Bool, true, false, cond, List, [], ◌∷◌, ◌++◌, map, slice_get, Option, Some, None, refl, sym, ap, ◌∙◌, subst, arith}
+use Rattle.std.proofs.Common.{◌≡◌, ℕ, ◌<◌, ◌≤◌, ◌==◌, true, false, cond, List, [], ◌∷◌, ◌++◌, slice_get, Option, Some, None, sym, ◌∙◌, subst, arith}
 use Rattle.std.specs.Option.{option_map}
 use Rattle.std.proofs.Math.Nat.{le-max_left, max-le}
 use Rattle.std.proofs.lemmas.Option.{none-some, same_Some, slice_get-map}
@@ -13,15 +13,15 @@ use Rattle.ras_device.specs.declared.act.Act.{Act}
 use Rattle.board_plan.specs.declared.notes.Step.{Step}
 use Rattle.board_plan.specs.declared.plan.BankDecl.{BankDecl}
 use Rattle.board_plan.specs.declared.plan.Plan.{Plan}
-use Rattle.board_plan.specs.State.{BoardState, bank_plan, start_state}
+use Rattle.board_plan.specs.State.{BoardState, bank_plan}
 use Rattle.board_plan.specs.Step.{Stepped, step}
 use Rattle.board_plan.specs.Run.{ran}
 use Rattle.board_plan.specs.Plans.{IsPlan, AreReports}
 use Rattle.drain_laws.proofs.BankMoves.{Moves}
 use Rattle.drain_laws.proofs.BankMoves.Moves.{reports, acks, finds_none, finds, claims, reads, tears, publishes, clears, signals}
-use Rattle.drain_laws.proofs.BoardSound.{BoardSound, ran_sound, step_sound, start_board}
-use Rattle.drain_laws.proofs.BankRuns.{IsFit, Moved, moved, declared}
-use Rattle.drain_laws.proofs.Turns.{Turn, TakesTurn, turn_of, there_before}
+use Rattle.drain_laws.proofs.BoardSound.{BoardSound, step_sound, start_board}
+use Rattle.drain_laws.proofs.BankRuns.{IsFit, moved, declared}
+use Rattle.drain_laws.proofs.Turns.{Turn, turn_of, there_before}
 use Rattle.drain_laws.proofs.Turns.Turn.{rests, takes}
 use Rattle.drain_laws.proofs.Runs.{kept_from_start}
 

@@ -1,14 +1,14 @@
 -- Laws of what records show: a signalled record's bank asks, what is shown and published is about to be invalidated,
 -- and each copy is of its record.
-use Rattle.std.proofs.Common.{◌≡◌, ℕ, zero, suc, Bool, true, false, List, [], ◌∷◌, slice_get, Option, Some, None, refl, inl, inr, sym, ap, ◌∙◌, subst}
-use Rattle.std.proofs.lemmas.Bool.{cases_Bool, true≢false}
+use Rattle.std.proofs.Common.{◌≡◌, ℕ, zero, suc, Bool, true, false, List, [], ◌∷◌, slice_get, Option, Some, None, refl, sym, ap, ◌∙◌, subst}
+use Rattle.std.proofs.lemmas.Bool.{true≢false}
 use Rattle.std.proofs.lemmas.Option.{none-some, same_Some}
 use Rattle.sse_base.specs.Events.{Events}
 use Rattle.reri_fields.specs.declared.drain.Phase.{Phase}
 use Rattle.reri_fields.specs.declared.drain.Phase.TheVariants.{Invalidate}
 use Rattle.reri_fields.specs.Records.{Error, Origin, shown}
 use Rattle.reri_fields.specs.Banks.{BankEvent}
-use Rattle.reri_fields.specs.Drain.{BankPlan, BankState, BankTry, BankNote, Draining, Publication, errors_at, claimed_at}
+use Rattle.reri_fields.specs.Drain.{BankState, BankTry, BankNote, Draining, Publication, errors_at, claimed_at}
 use Rattle.ras_device.specs.declared.act.Act.{Act}
 use Rattle.board_plan.specs.declared.notes.Published.{Published}
 use Rattle.board_plan.specs.declared.notes.Step.{Step}
@@ -17,18 +17,18 @@ use Rattle.board_plan.specs.declared.notes.StepNote.TheVariants as note
 use Rattle.board_plan.specs.declared.plan.BankDecl.{BankDecl}
 use Rattle.board_plan.specs.declared.plan.Plan.{Plan}
 use Rattle.board_plan.specs.State.{BoardState, bank_plan}
-use Rattle.board_plan.specs.Step.{Stepped, bank_note, published_by, step}
+use Rattle.board_plan.specs.Step.{bank_note, published_by}
 use Rattle.board_plan.specs.Run.{ran}
-use Rattle.board_plan.specs.Fates.{origin_in, origin_at}
+use Rattle.board_plan.specs.Fates.{origin_in}
 use Rattle.board_plan.specs.Plans.{IsPlan}
-use Rattle.board_plan.specs.Sound.{EachSignalledAsks, EachShownPublishedIsUnderInvalidate, EachCopyIsOfItsRecord, IsUnderInvalidate, IsOfItsRecord, IsThere, origins_of}
-use Rattle.drain_laws.proofs.Past.{Past, Stays, past_unshown}
+use Rattle.board_plan.specs.Sound.{EachSignalledAsks, EachShownPublishedIsUnderInvalidate, EachCopyIsOfItsRecord, IsUnderInvalidate, IsOfItsRecord, origins_of}
+use Rattle.drain_laws.proofs.Past.{Stays, past_unshown}
 use Rattle.drain_laws.proofs.Past.Stays.{still, past}
 use Rattle.drain_laws.proofs.BankMoves.{Moves, moves}
 use Rattle.drain_laws.proofs.BankMoves.Moves.{publishes}
-use Rattle.drain_laws.proofs.BoardMoves.{AtBank, Touches, Comes, step_does}
+use Rattle.drain_laws.proofs.BoardMoves.{Touches, Comes, step_does}
 use Rattle.drain_laws.proofs.BoardMoves.Touches.{apart, at}
-use Rattle.drain_laws.proofs.BankSound.{is_invalidate, Settled, Standing, Each, JustPublished, PublishedIf, PublishedIn, BankSound}
+use Rattle.drain_laws.proofs.BankSound.{is_invalidate, Settled, Standing, Each, PublishedIf, PublishedIn}
 use Rattle.drain_laws.proofs.BoardSound.{ran_sound}
 
 -- ---- A signalled record's bank asks ----
@@ -71,7 +71,8 @@ newest_shown : (origins : List Origin) (n : ℕ) (x : BankState) (u : Draining) 
     → shown (errors_at origin p.rec x.history) ≡ Some e → IsUnderInvalidate x place p origin
 newest_shown origins n x u (suc place) p e origin ps under phase latest older are newest rest here was there now =
     absurd (settled_unshown origins n x.history p e origin
-    (each_at (Settled origins n x.history) older place p rest (sym (ap (λ qs. slice_get qs (suc place)) are) ∙ here)) was there now)
+    (each_at (Settled origins n x.history) older place p rest
+    (sym (ap (λ qs. slice_get qs (suc place)) are) ∙ here)) was there now)
 newest_shown origins n x u zero p e origin ps under phase latest older are newest rest here was there now =
     let is : latest ≡ p = same_Some latest p (sym (ap (λ qs. slice_get qs zero) are) ∙ here) in
     let standing : Standing origins n x.history p u.rec =
@@ -91,7 +92,8 @@ if_shown : (origins : List Origin) (n : ℕ) (x : BankState) (u : Draining) (pla
     → slice_get x.published place ≡ Some p → p.shown ≡ Some e → slice_get origins p.rec ≡ Some origin
     → shown (errors_at origin p.rec x.history) ≡ Some e → IsUnderInvalidate x place p origin
 if_shown origins n x u place p e origin false under phase h here was there now =
-    absurd (settled_unshown origins n x.history p e origin (each_at (Settled origins n x.history) x.published place p h here) was there now)
+    absurd (settled_unshown origins n x.history p e origin
+    (each_at (Settled origins n x.history) x.published place p h here) was there now)
 if_shown origins n x u place p e origin true under phase h here was there now =
     newest_shown origins n x u place p e origin x.published under phase h.latest h.older h.are h.newest h.rest here was
     there now
@@ -101,7 +103,8 @@ in_shown : (origins : List Origin) (n : ℕ) (x : BankState) (o : Option Drainin
     → slice_get x.published place ≡ Some p → p.shown ≡ Some e → slice_get origins p.rec ≡ Some origin
     → shown (errors_at origin p.rec x.history) ≡ Some e → IsUnderInvalidate x place p origin
 in_shown origins n x None place p e origin under h here was there now =
-    absurd (settled_unshown origins n x.history p e origin (each_at (Settled origins n x.history) x.published place p h here) was there now)
+    absurd (settled_unshown origins n x.history p e origin
+    (each_at (Settled origins n x.history) x.published place p h here) was there now)
 in_shown origins n x (Some u) place p e origin under h here was there now =
     if_shown origins n x u place p e origin (is_invalidate u.phase) under refl h here was there now
 

@@ -1,14 +1,12 @@
--- Laws of slots: what a slot holds, that a copy stands there until its acknowledgement, and that a signalled block rests.
-use Rattle.std.proofs.Common.{◌≡◌, ℕ, zero, suc, ◌==◌, ◌&&◌, ◌||◌, Bool, true, false, cond, List, [], ◌∷◌, ◌++◌, slice_get, Option, Some, None, refl, inl, inr, sym, ap, ◌∙◌, subst}
-use Rattle.std.specs.List.{list_any}
+-- Laws of slots: what a slot holds, that a copy stands there until its acknowledgement, and that a signalled block
+-- rests.
+use Rattle.std.proofs.Common.{◌≡◌, ℕ, zero, suc, ◌==◌, ◌&&◌, ◌||◌, Bool, true, false, cond, List, [], ◌∷◌, ◌++◌, slice_get, Option, Some, None, refl, sym, ap, ◌∙◌, subst}
 use Rattle.std.specs.Option.{option_map}
-use Rattle.std.proofs.lemmas.Bool.{cases_Bool, true≢false, eq-eqb}
+use Rattle.std.proofs.lemmas.Bool.{true≢false, eq-eqb}
 use Rattle.std.proofs.lemmas.Option.{none-some, same_Some, slice_get-map}
 use Rattle.sse_base.specs.Events.{Events}
 use Rattle.reri_fields.specs.declared.report.RecordCopy.{RecordCopy}
-use Rattle.reri_fields.specs.declared.drain.DrainNote.TheVariants as drain
 use Rattle.reri_fields.specs.Drain.{BankPlan, BankState, BankTry, BankNote, Draining, Publication, bank_start, is_free, publication}
-use Rattle.reri_fields.specs.Drain.BankNote.{Heard, Drew, Acknowledged}
 use Rattle.ras_device.specs.declared.act.Act.{Act}
 use Rattle.board_plan.specs.declared.notes.Step.{Step}
 use Rattle.board_plan.specs.declared.notes.StepNote.{StepNote}
@@ -16,19 +14,19 @@ use Rattle.board_plan.specs.declared.notes.StepNote.TheVariants as note
 use Rattle.board_plan.specs.declared.plan.BankDecl.{BankDecl}
 use Rattle.board_plan.specs.declared.plan.Plan.{Plan}
 use Rattle.board_plan.specs.State.{BoardState, bank_plan, start_state}
-use Rattle.board_plan.specs.Step.{Stepped, bank_note, step}
-use Rattle.board_plan.specs.Run.{Noted, run, notes, ran}
+use Rattle.board_plan.specs.Step.{Stepped, bank_note}
+use Rattle.board_plan.specs.Run.{Noted, notes, ran}
 use Rattle.board_plan.specs.Plans.{IsPlan}
 use Rattle.board_plan.specs.Sound.{newest_copies}
 use Rattle.board_plan.specs.Blocks.{publishes_on, acks_on, claims_on, some_note, since_ack, EachSlotIsOfItsNotes, EachCopyStands, EachSignalledBlockRests}
 use Rattle.drain_laws.proofs.BankMoves.{Moves, IsDue}
 use Rattle.drain_laws.proofs.BankMoves.IsDue.{goes_on, begins}
 use Rattle.drain_laws.proofs.BankMoves.Moves.{reports, acks, finds_none, finds, claims, reads, tears, publishes, clears, signals}
-use Rattle.drain_laws.proofs.BankRuns.{Moved, BankRun, moved, bank_run, declared}
+use Rattle.drain_laws.proofs.BankRuns.{Moved, BankRun, bank_run, declared}
 use Rattle.drain_laws.proofs.BankRuns.BankRun.{ends, waits, goes}
-use Rattle.drain_laws.proofs.BoardSound.{BoardSound, start_board, ran_sound, step_sound}
+use Rattle.drain_laws.proofs.BoardSound.{start_board, ran_sound, step_sound}
 use Rattle.drain_laws.proofs.Copies.{free_is_empty}
-use Rattle.drain_laws.proofs.Turns.{is_of, Turn, TakesTurn, turn_of, there_before}
+use Rattle.drain_laws.proofs.Turns.{is_of, Turn, turn_of, there_before}
 use Rattle.drain_laws.proofs.Turns.Turn.{rests, takes}
 
 -- ---- Notes of other banks ----

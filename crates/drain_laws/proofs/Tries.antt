@@ -1,6 +1,6 @@
--- Laws of claims: how many a drain makes for one record before it publishes, and that only a greater error tears a Check.
-use Rattle.std.proofs.Common.{◌≡◌, ℕ, zero, suc, ◌+◌, ◌<◌, ◌≤◌, ◌==◌, ◌&&◌, nat_lt, max, Bool, true, false, cond, List, [], ◌∷◌, ◌++◌, slice_get, Option, Some, None, refl, inl, inr, sym, ap, ◌∙◌, subst, arith}
-use Rattle.std.specs.List.{count_by}
+-- Laws of claims: how many a drain makes for one record before it publishes, and that only a greater error tears a
+-- Check.
+use Rattle.std.proofs.Common.{◌≡◌, ℕ, suc, ◌+◌, ◌≤◌, ◌==◌, ◌&&◌, nat_lt, max, Bool, true, false, cond, List, ◌∷◌, slice_get, Option, Some, None, refl, inl, inr, sym, ap, ◌∙◌, subst, arith}
 use Rattle.std.proofs.Math.Nat.{le-max_left, le-max_right}
 use Rattle.std.proofs.lemmas.Bool.{cases_Bool, true≢false, eq-eqb}
 use Rattle.std.proofs.lemmas.List.Sums.{sum_by-cons}
@@ -8,39 +8,36 @@ use Rattle.std.proofs.lemmas.Option.{none-some, same_Some}
 use Rattle.sse_base.specs.Events.{Events}
 use Rattle.reri_fields.specs.declared.drain.Phase.{Phase}
 use Rattle.reri_fields.specs.declared.drain.Phase.TheVariants.{Scan, Claim, Address, Info, Supplement, Time, Check, Invalidate, Signal}
-use Rattle.reri_fields.specs.declared.drain.DrainNote.TheVariants as drain
-use Rattle.reri_fields.specs.Records.{Error, Origin, rank_of, greatest_of, is_any, shown}
+use Rattle.reri_fields.specs.Records.{Error, Origin, rank_of, greatest_of, is_any}
 use Rattle.reri_fields.specs.Banks.{BankEvent}
-use Rattle.reri_fields.specs.Banks.BankEvent.{Logs, Claims}
-use Rattle.reri_fields.specs.Drain.{BankPlan, BankState, BankTry, BankNote, Draining, after_empty_scan, after_invalidate, errors_at, claimed_at, is_cleared}
+use Rattle.reri_fields.specs.Banks.BankEvent.{Claims}
+use Rattle.reri_fields.specs.Drain.{BankPlan, BankState, BankTry, BankNote, Draining, errors_at, claimed_at, is_cleared}
 use Rattle.reri_log.proofs.Errors.{greatest_of-push}
 use Rattle.ras_device.specs.declared.act.Act.{Act}
-use Rattle.board_plan.specs.declared.notes.Step.{Step}
 use Rattle.board_plan.specs.declared.notes.StepNote.{StepNote}
 use Rattle.board_plan.specs.declared.notes.StepNote.TheVariants as note
 use Rattle.board_plan.specs.declared.plan.BankDecl.{BankDecl}
 use Rattle.board_plan.specs.declared.plan.Plan.{Plan}
-use Rattle.board_plan.specs.State.{BoardState, bank_plan}
-use Rattle.board_plan.specs.Step.{Stepped, bank_note, step}
+use Rattle.board_plan.specs.State.{bank_plan}
+use Rattle.board_plan.specs.Step.{bank_note}
 use Rattle.board_plan.specs.Run.{Noted, run, notes, ran}
 use Rattle.board_plan.specs.Plans.{IsPlan, AreReports}
-use Rattle.board_plan.specs.Fates.{origin_in, origin_at}
-use Rattle.board_plan.specs.Sound.{IsValidAt, drained_bank, has_record}
-use Rattle.board_plan.specs.Blocks.{publishes_on, claims_on, some_note, number_of_notes, rank_shown, AreAtMostTwelveClaims, EachTornCheckRises}
+use Rattle.board_plan.specs.Fates.{origin_in}
+use Rattle.board_plan.specs.Sound.{drained_bank, has_record}
+use Rattle.board_plan.specs.Blocks.{publishes_on, claims_on, some_note, number_of_notes, AreAtMostTwelveClaims, EachTornCheckRises, AreClaimsBounded}
 use Rattle.drain_laws.proofs.BankMoves.{Moves, IsDue, is_reading, is_read_to}
 use Rattle.drain_laws.proofs.BankMoves.IsDue.{goes_on, begins}
 use Rattle.drain_laws.proofs.BankMoves.Moves.{reports, acks, finds_none, finds, claims, reads, tears, publishes, clears, signals}
-use Rattle.drain_laws.proofs.BankRuns.{IsFit, Moved, BankRun, moved, bank_run, reaches}
+use Rattle.drain_laws.proofs.BankRuns.{IsFit, Moved, BankRun, bank_run, reaches}
 use Rattle.drain_laws.proofs.BankRuns.BankRun.{ends, waits, goes}
-use Rattle.drain_laws.proofs.BankSound.{BankSound, Fits}
-use Rattle.drain_laws.proofs.BankSteps.{logs_any, claim_any}
-use Rattle.drain_laws.proofs.BoardSound.{BoardSound, ran_sound, run_sound, step_sound}
+use Rattle.drain_laws.proofs.BankSound.{BankSound}
+use Rattle.drain_laws.proofs.BankSteps.{logs_any}
+use Rattle.drain_laws.proofs.BoardSound.{ran_sound, step_sound}
 use Rattle.drain_laws.proofs.Held.{Enters, logs_at, errors_claimed, claim_counts}
 use Rattle.drain_laws.proofs.Held.Enters.{passes_by, writes, keeps_out}
-use Rattle.drain_laws.proofs.OwnTurns.{OwnTurn, own_turn}
-use Rattle.drain_laws.proofs.Ranks.{AreRanked, BoardRanked, ran_ranked, step_ranked, ranked_moves, top_low}
-use Rattle.drain_laws.proofs.Slots.{claims_elsewhere, publishes_elsewhere, no_first}
-use Rattle.drain_laws.proofs.Turns.{is_of, TakesTurn}
+use Rattle.drain_laws.proofs.OwnTurns.{own_turn}
+use Rattle.drain_laws.proofs.Ranks.{AreRanked, ran_ranked, step_ranked, ranked_moves, top_low}
+use Rattle.drain_laws.proofs.Slots.{claims_elsewhere, no_first}
 
 -- ---- A drain that tries to read its record ----
 
@@ -196,8 +193,8 @@ torn_lost plan o rec x u which there rec_is known off =
 
 -- ---- Any move ----
 
--- What a move makes of a drain that tries to read its record: the try goes on, or begins anew with one claim more, or is
--- over with a Check that published.
+-- What a move makes of a drain that tries to read its record: the try goes on, or begins anew with one claim more, or
+-- is over with a Check that published.
 data TryMove (bank : ℕ) (n : StepNote) (o : Origin) (rec count : ℕ) (y : BankState) : Type 0 where
   stays : claims_on bank n ≡ false → Tries o rec count y → TryMove bank n o rec count y
   again : claims_on bank n ≡ true → Tries o rec (suc count) y → TryMove bank n o rec count y
@@ -584,3 +581,9 @@ each_torn_check_rises plan acts is =
       ap (λ (b : BankState). top origin rec b.history) y_is,
       ap (λ (b : BankState). top origin rec b.history) x_is,
     )
+
+-- both
+pub are_claims_bounded : (plan : Plan) (acts : ℕ → List Act) → IsPlan plan → AreReports acts
+    → AreClaimsBounded plan acts
+are_claims_bounded plan acts is are =
+    record { twelve = at_most_twelve_claims plan acts is are; torn = each_torn_check_rises plan acts is }

@@ -1,17 +1,15 @@
 -- A step of a board as one of its banks sees it: it makes a move, or it rests.
-use Rattle.std.proofs.Common.{◌≡◌, ◌≢◌, ℕ, suc, ◌<◌, ◌==◌, Bool, true, false, List, length, set, slice_get, Option, Some, None, refl, inl, inr, sym, ap, ◌∙◌, subst, arith}
+use Rattle.std.proofs.Common.{◌≡◌, ◌≢◌, ℕ, ◌==◌, Bool, true, false, List, length, slice_get, Some, None, refl, inl, inr, sym, ap, ◌∙◌, subst, arith}
 use Rattle.std.proofs.lemmas.Bool.{cases_eq, true≢false, ne_eqb}
 use Rattle.std.proofs.lemmas.List.{length-set}
-use Rattle.std.proofs.lemmas.Option.{none-some, same_Some, slice_get_within}
+use Rattle.std.proofs.lemmas.Option.{same_Some, slice_get_within}
 use Rattle.sse_base.specs.Events.{Events}
 use Rattle.reri_fields.specs.declared.drain.DrainNote.TheVariants as drain
 use Rattle.reri_fields.specs.Drain.{BankState, BankTry, BankNote}
-use Rattle.reri_fields.specs.Drain.BankTry.{Reports, Drains, Acknowledges}
 use Rattle.reri_fields.specs.Drain.BankNote.{Heard, Drew, Acknowledged}
 use Rattle.reri_bank.proofs.Stands.{get_there, get-set_same, get-set_other}
 use Rattle.ras_device.specs.declared.act.Act.{Act}
 use Rattle.board_plan.specs.declared.notes.Step.{Step}
-use Rattle.board_plan.specs.declared.notes.Step.TheVariants.{Hart, Reporter}
 use Rattle.board_plan.specs.declared.notes.StepNote.{StepNote}
 use Rattle.board_plan.specs.declared.notes.StepNote.TheVariants as note
 use Rattle.board_plan.specs.declared.plan.BankDecl.{BankDecl}
@@ -19,7 +17,7 @@ use Rattle.board_plan.specs.declared.plan.Plan.{Plan}
 use Rattle.board_plan.specs.State.{BoardState, bank_plan}
 use Rattle.board_plan.specs.Step.{Stepped, bank_note, published_by, step}
 use Rattle.drain_laws.proofs.BankMoves.{Moves, moves}
-use Rattle.drain_laws.proofs.BoardMoves.{is_apart, Comes, AtBank, Touches, Does, step_does}
+use Rattle.drain_laws.proofs.BoardMoves.{is_apart, Comes, AtBank, Touches, step_does}
 use Rattle.drain_laws.proofs.BoardMoves.Touches.{apart, at}
 
 -- a note of a bank's drain, or of an acknowledgement that came to it
