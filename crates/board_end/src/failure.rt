@@ -3,8 +3,8 @@
 ghost use Rattle.std.specs.Prelude.{◌≡◌};
 ghost use Rattle.board_end.specs.Endings.{number_of, ending};
 
+use board_plan::LineFault;
 use board_run::Status;
-use first_form::LineFault;
 use ras_io::SinkFault;
 use thiserror::Error;
 
@@ -40,6 +40,13 @@ pub enum Failure {
 fn word_of(kind: &LineFault) -> &'static str {
     match kind {
         LineFault::Head => "head",
+        LineFault::Word => "word",
+        LineFault::Count => "count",
+        LineFault::Number => "number",
+        LineFault::Range => "range",
+        LineFault::Unknown => "unknown",
+        LineFault::Twice => "twice",
+        LineFault::Full => "full",
     }
 }
 

@@ -1,4 +1,4 @@
-//! The program `rasboard`: it plays the script on standard input and prints the report of its board.
+//! The program `rasboard`: it does what its words say with the script on standard input, and prints what comes of it.
 #![tactic(auto)]
 
 use board_end::{Failure, ended};
@@ -30,7 +30,7 @@ fn texts<'a, R: AllocGlobal>(rt: &R, words: &'a [String]) -> Result<Vec<&'a str>
     Ok(texts)
 }
 
-/// Plays what comes in. What waits in the sink goes out before the ending is chosen.
+/// Does what the words say with what comes in. What waits in the sink goes out before the ending is chosen.
 fn run<R: Env + Input + Print + AllocGlobal>(rt: &R) -> Result<(), Failure> {
     let words = words(rt)?;
     let texts = texts(rt, words.as_slice())?;

@@ -1,9 +1,3 @@
-pub mod Cuts
-pub mod Following
-pub mod Loops
-pub mod LineParts
-pub mod LineTexts
-pub mod Progress
-pub mod ReportLines
-pub mod Composed
-pub mod Placing
+-- Lemmas on what is written.
+pub mod Joined
+pub mod Written

@@ -1,6 +1,3 @@
--- What `play` promises, and behind it what the code's own parts say.
+-- What the top call promises, and what its own parts say.
 pub mod Play
-pub mod OneHart
-pub mod Reading
-pub mod Rounds
-pub mod Told
+pub mod Parts

@@ -1,56 +1,97 @@
 -- What the top call promises, one definition a promise. This project's own, over the board book.
-use Rattle.std.specs.Prelude.{◌≡◌, ◌⊎◌, ℕ, nat_lt, Bool, true, false, if◌then◌else◌, List, [], ◌∷◌, length, Option, Some, None, codes, bytes_eq}
+use Rattle.std.specs.Prelude.{◌≡◌, ◌⊎◌, ℕ, nat_lt, Bool, true, false, if◌then◌else◌, List, [], ◌∷◌, ◌++◌, length, Option, Some, None, Result, Ok, Err, codes, bytes_eq}
 use Rattle.std.specs.Borrow.{Bor}
 use Rattle.std.specs.Io.KnownBytes.{Appends}
 use Rattle.ras_io.specs.Causes.{AppendsFront}
-use Rattle.first_form.specs.declared.notes.Step.{Step}
-use Rattle.first_form.specs.declared.plan.Plan.{Plan}
-use Rattle.first_form.specs.declared.plan.LineFault.TheVariants.{Head}
-use Rattle.first_form.specs.FirstForm.{first_form, Reads}
-use Rattle.first_form.specs.Run.{AreTries}
-use Rattle.first_form.specs.Text.{full}
+use Rattle.ras_device.specs.declared.act.Act.{Act}
+use Rattle.board_plan.specs.declared.notes.Step.{Step}
+use Rattle.board_plan.specs.declared.plan.Plan.{Plan}
+use Rattle.board_plan.specs.Script.{Refusal, script, Reads}
+use Rattle.board_plan.specs.Canonical.{canonical, moved}
+use Rattle.board_plan.specs.Run.{AreTries, lists}
+use Rattle.board_plan.specs.Text.{full, short, trace}
+use Rattle.board_run.specs.declared.command.Shown.{Shown}
+use Rattle.board_run.specs.declared.command.Shown.TheVariants.{Full, Traced, Short}
+use Rattle.board_run.specs.declared.command.Command.{Command}
+use Rattle.board_run.specs.declared.command.Command.TheVariants.{Play, Move}
 use Rattle.board_run.specs.declared.status.Status.{Status}
 use Rattle.board_run.specs.declared.status.Status.TheVariants as answers
 
--- the words are the one command, `play`
-abbrev pub is_command : List (Bor (List ℕ)) → Bool
-is_command (w ∷ []) = bytes_eq w.now (codes "play")
-is_command words = false
+-- ---- Words ----
 
--- the longest input that is read
+-- what may stand behind `play`
+abbrev pub option_of : List ℕ → Option Command
+option_of word =
+    if bytes_eq word (codes "--trace") then Some (Play Traced)
+    else (if bytes_eq word (codes "--short") then Some (Play Short)
+    else None)
+
+-- the command that these words name; all others are no command
+abbrev pub command_of : List (Bor (List ℕ)) → Option Command
+command_of (name ∷ []) =
+    if bytes_eq name.now (codes "play") then Some (Play Full)
+    else (if bytes_eq name.now (codes "move") then Some Move
+    else None)
+command_of (name ∷ option ∷ []) = if bytes_eq name.now (codes "play") then option_of option.now else None
+command_of words = None
+
+-- the longest input that is read, in bytes
 abbrev pub limit : ℕ
 limit = 1048576
 
--- The bytes are the report of a text: it reads as a plan, and they are the full report of the plan's run over its
--- rounds.
-pub record IsReport (text bytes : List ℕ) : Type 0 where
+-- ---- What a command writes ----
+
+-- what is shown of a plan's run over these tries
+abbrev pub shown : Shown → Plan → (ℕ → List Act) → List Step → List ℕ
+shown Full plan acts tries = full plan acts tries
+shown Traced plan acts tries = trace plan acts tries ++ full plan acts tries
+shown Short plan acts tries = short plan acts tries
+
+-- The bytes show the play of a text: it reads as a plan, the plan makes these tries, where its reporters have the acts
+-- that it lists, and the bytes are what is shown of that run.
+pub record IsReport (what : Shown) (text bytes : List ℕ) : Type 0 where
   pub plan : Plan
   pub tries : List Step
   pub reads : Reads text plan
-  pub rounds : AreTries plan tries
-  pub report : bytes ≡ full plan tries
+  pub are_tries : AreTries plan (lists plan []) tries
+  pub report : bytes ≡ shown what plan (lists plan []) tries
 
--- the report of what was left in the source was appended to the sink
-pub record WritesReport (text : List ℕ) (old new : Option (List ℕ)) : Type 0 where
+-- The bytes are a text in version 2's form: it reads as a plan, the bytes are the canonical text of that plan when it is
+-- moved, and they read as the moved plan.
+pub record IsMove (text bytes : List ℕ) : Type 0 where
+  pub plan : Plan
+  pub reads : Reads text plan
+  pub moves : bytes ≡ canonical (moved plan)
+  pub reads_again : Reads bytes (moved plan)
+
+-- the bytes that a command writes for a text
+abbrev pub IsOutput : Command → List ℕ → List ℕ → Type 0
+IsOutput (Play what) text bytes = IsReport what text bytes
+IsOutput Move text bytes = IsMove text bytes
+
+-- they were appended to the sink
+pub record WritesOutput (command : Command) (text : List ℕ) (old new : Option (List ℕ)) : Type 0 where
   pub bytes : List ℕ
-  pub is_report : IsReport text bytes
+  pub is_output : IsOutput command text bytes
   pub appended : Appends old new bytes
 
--- a front of that report was appended
-pub record WritesFront (text : List ℕ) (old new : Option (List ℕ)) : Type 0 where
+-- a front of them was
+pub record WritesFront (command : Command) (text : List ℕ) (old new : Option (List ℕ)) : Type 0 where
   pub bytes : List ℕ
-  pub is_report : IsReport text bytes
+  pub is_output : IsOutput command text bytes
   pub appended : AppendsFront old new bytes
 
+-- ---- Answers ----
+
 -- what a text is answered where no memory is wanting and the sink takes all
-abbrev pub answer_read : Option Plan → Status
-answer_read None = answers.BadScript 1 Head
-answer_read (Some plan) = answers.Ok
+abbrev pub answer_read : Result Plan Refusal → Status
+answer_read (Ok plan) = answers.Ok
+answer_read (Err refusal) = answers.BadScript refusal.line refusal.kind
 
 abbrev pub answer_to : List ℕ → Status
-answer_to text = if nat_lt limit (length text) then answers.TooLong else answer_read (first_form text)
+answer_to text = if nat_lt limit (length text) then answers.TooLong else answer_read (script text)
 
--- it is that answer, or memory is wanting, or the sink failed under the report of a text that is read
+-- it is that answer, or memory is wanting, or the sink failed under the output of a text that is read
 abbrev pub Answers : List ℕ → Status → Type 0
 Answers text status =
     (status ≡ answers.NoMemory) ⊎ (status ≡ answer_to text)
@@ -61,6 +102,13 @@ abbrev pub is_silent : Status → Bool
 is_silent answers.Ok = false
 is_silent answers.WriteFault = false
 is_silent status = true
+
+-- the answers that come only of a text within the limit
+abbrev pub is_of_text : Status → Bool
+is_of_text answers.Ok = true
+is_of_text (answers.BadScript line kind) = true
+is_of_text answers.WriteFault = true
+is_of_text status = false
 
 -- the answers that tell of a fault, of the source and of the sink
 abbrev pub is_read_fault : Status → Bool

@@ -1,15 +1,11 @@
-//! The top call: plays a script and writes its report.
+//! The top call: plays a script and writes what its command asks for.
 #![tactic(auto)]
 
-mod board;
-mod fields;
-mod lines;
+mod command;
+mod outputs;
 mod playing;
-mod reading;
-mod report;
-mod rounds;
-mod script;
 mod status;
 
+pub use command::{Command, Shown};
 pub use playing::play;
 pub use status::Status;

@@ -1,21 +1,21 @@
 //! What the top call answers.
 
-use first_form::LineFault;
+use board_plan::LineFault;
 
-/// How a command ended.
+/// How a command ended. This project's own.
 #[derive(Clone, Copy, Debug, PartialEq, Eq)]
 pub enum Status {
-    /// The whole report was written.
+    /// All that the command writes was written.
     Ok,
     /// The words are no command.
     Usage,
-    /// The script is refused at this line, for this reason.
+    /// The script is refused at this line, counted from 1, for this reason.
     BadScript { line: u32, kind: LineFault },
     /// The source failed.
     ReadFault,
-    /// The sink failed; a front of the report was written.
+    /// The sink failed; a front of what the command writes was written.
     WriteFault,
-    /// Memory is wanting. It comes before the first step.
+    /// Memory is wanting. It comes before the first step, and nothing was written.
     NoMemory,
     /// The input is longer than 1,048,576 bytes.
     TooLong,

@@ -1,7 +1,5 @@
-//! Tests of the top call, and of the ops of a board.
+//! Tests of the top call.
 #![tactic(auto)]
 
-#[cfg(test)]
-mod ops;
 #[cfg(test)]
 mod play;

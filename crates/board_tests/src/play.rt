@@ -2,8 +2,8 @@
 
 ghost use Rattle.std.specs.Prelude.{Some};
 
+use board_plan::LineFault;
 use board_run::{Status, play};
-use first_form::LineFault;
 use ras_io::{MemSink, MemSource, Sink, SinkFault};
 use std::alloc::{AllocError, Global};
 use std::test::Fail;
@@ -31,11 +31,6 @@ end
 ";
 
 const LINES: usize = 7;
-
-const REFUSED: Status = Status::BadScript {
-    line: 1,
-    kind: LineFault::Head,
-};
 
 // the first so many lines of the report
 fn report(alloc: Global, count: usize) -> Result<Vec<u8>, AllocError> {
@@ -153,33 +148,32 @@ fn writes_a_front_to_a_sink_that_is_full(rt: HostRuntime) -> Result<(), Fail> {
 }
 
 #[test]
-fn refuses_texts_of_another_form(rt: HostRuntime) -> Result<(), Fail> {
-    let texts: [&[u8]; 14] = [
-        b"",
-        b"board 1 1\nevent 0xffff0000 inject\n",
-        b"board 1 1\nevent 0xffff0000 inject\nstart 0 0 1",
-        b"board 1 2\nevent 0xffff0000 inject\nstart 0 0 1\n",
-        b"board 1 1\nevent 0xffff0000 noinject\nstart 0 0 1\n",
-        b"board 1 1\nevent 0xffff0000 inject\nop  inc 0x0\nstart 0 0 1\n",
-        b"board 1 1\nevent 0xffff0000 inject\nop\tinc 0x0\nstart 0 0 1\n",
-        b"board 1 1\nevent 0xffff0000 inject\nop inc 0X0\nstart 0 0 1\n",
-        b"board 1 1\nevent 0xffff0000 inject\nat 0x1001\nstart 0 0 1\n",
-        b"board 1 1\nevent 0xffff0000 inject\nat 0xffff0002\nstart 0 0 1\n",
-        b"board 1 1\nevent 0xffff0000 inject\nop sbi 0x535345 8 1 2 3 4 5 6\nstart 0 0 1\n",
-        b"board 1 1\nevent 0xffff0000 inject\nop inc 0\nat 0x1000\nop inc 0\nstart 0 0 1\n",
-        b"board 1 1\nevent 0xffff0000 inject\nstart 0 0 10001\n",
-        b"board 1 1\nevent 0xffff0000 inject\nstart 0 0 1\nat 0x1000\n",
+fn refuses_the_first_line_that_is_wrong(rt: HostRuntime) -> Result<(), Fail> {
+    let texts: [(&[u8], u32, LineFault); 9] = [
+        (b"", 1, LineFault::Head),
+        (b"\n# no board\nboard 3 1\n", 3, LineFault::Head),
+        (b"board 1 1\nboards\n", 2, LineFault::Word),
+        (b"board 1 1\nop inc\n", 2, LineFault::Count),
+        (b"board 1 1\n\nop inc 0X0\n", 3, LineFault::Number),
+        (b"board 1 1\nat 0x1001\n", 2, LineFault::Range),
+        (b"board 1 1\nplat 0 0x4000\n", 2, LineFault::Unknown),
+        (b"board 1 1\nboard 1 1\n", 2, LineFault::Twice),
+        (
+            b"board 1 1\nbank 0 local 1\nbank 0 local 1\nbank 0 local 1\nbank 0 local 1\nbank 0 local 1\n",
+            6,
+            LineFault::Full,
+        ),
     ];
-    for text in texts {
+    for (text, line, kind) in texts {
         let (status, bytes) = played(rt.alloc(), text, 4096, None, None)?;
-        assert_eq!(rt; status, REFUSED);
+        assert_eq!(rt; status, Status::BadScript { line, kind });
         assert!(rt; bytes.is_empty());
     }
     Ok(())
 }
 
 #[test]
-fn takes_the_edges_of_the_form(rt: HostRuntime) -> Result<(), Fail> {
+fn takes_the_edges_of_scripts(rt: HostRuntime) -> Result<(), Fail> {
     let texts: [&[u8]; 3] = [
         b"board 1 1\nevent 0xffff0000 inject\nstart 0 18446744073709551615 10000\n",
         b"board 1 1\nevent 0xffff0000 inject\nat 0xffff0000\nop inc 0\nop inc 0\nstart 0 0 0\n",
@@ -193,8 +187,16 @@ fn takes_the_edges_of_the_form(rt: HostRuntime) -> Result<(), Fail> {
 }
 
 #[test]
-fn knows_the_one_command(rt: HostRuntime) -> Result<(), Fail> {
-    let lists: [&[&str]; 4] = [&[], &["Play"], &["play", "x"], &["pla"]];
+fn knows_its_commands(rt: HostRuntime) -> Result<(), Fail> {
+    let lists: [&[&str]; 7] = [
+        &[],
+        &["Play"],
+        &["play", "x"],
+        &["pla"],
+        &["--trace", "play"],
+        &["play", "--short", "--trace"],
+        &["move", "--short"],
+    ];
     for words in lists {
         let text = Vec::from_slice(rt.alloc(), SCRIPT)?;
         let mut source = MemSource::new(text, 4096, vec![in rt.alloc(); 0]?);
@@ -212,7 +214,11 @@ fn newlines(alloc: Global, count: usize) -> Result<Vec<u8>, AllocError> {
 
 #[test]
 fn says_that_an_input_is_too_long(rt: HostRuntime) -> Result<(), Fail> {
-    for (count, answer) in [(1048577, Status::TooLong), (1048576, REFUSED)] {
+    let refused = Status::BadScript {
+        line: 1048577,
+        kind: LineFault::Head,
+    };
+    for (count, answer) in [(1048577, Status::TooLong), (1048576, refused)] {
         let text = newlines(rt.alloc(), count)?;
         let (status, bytes) = played(rt.alloc(), text.as_slice(), 65536, None, None)?;
         assert_eq!(rt; status, answer);

@@ -1,6 +1,0 @@
--- What the loop of `place_of` keeps.
-use Rattle.std.proofs.Common.{ℕ, ◌<◌, ◌≢◌, slice_index}
-use Rattle.board_run.proofs.reading.place_of.Given as goal
-
-abbrev pub invariant-loop-i : goal.invariant-loop-i
-invariant-loop-i l = (k : ℕ) → k < l.i → slice_index l.text k ≢ l.byte

@@ -1,4 +1,0 @@
--- Lemmas on ops and runs, and a worked script.
-pub mod OpTables
-pub mod Runs
-mod FirstEvent
