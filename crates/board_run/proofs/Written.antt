@@ -5,10 +5,12 @@ use Rattle.ras_io.specs.declared.faults.SinkFault.{SinkFault}
 use Rattle.ras_device.specs.declared.act.Act.{Act}
 use Rattle.board_plan.specs.declared.notes.Step.{Step}
 use Rattle.board_plan.specs.declared.plan.Plan.{Plan}
+use Rattle.board_plan.specs.Plans.{IsPlan}
 use Rattle.board_plan.specs.Script.{Reads}
 use Rattle.board_plan.specs.Run.{lists, ran}
 use Rattle.board_plan.specs.Text.{full, short, trace}
-use Rattle.board_core.specs.Played.{Played, own_run}
+use Rattle.board_laws.proofs.Safe.{run_is_safe}
+use Rattle.board_core.specs.Played.{AreListsReports, Played, own_run}
 use Rattle.board_play.specs.Played.{IsRunOf}
 use Rattle.board_report.specs.Reports.{full_bytes, short_bytes, trace_bytes}
 use Rattle.board_run.specs.declared.command.Shown.{Shown}
@@ -24,9 +26,9 @@ shown_is Full plan acts tries = refl
 shown_is Traced plan acts tries = refl
 shown_is Short plan acts tries = refl
 
-report_is : (what : Shown) (plan : Plan) (b : Played) (text : List ℕ) → IsRunOf plan b → Reads text plan →
-    IsReport what text (shown_bytes what b.plan (own_run b))
-report_is what plan b text r e =
+report_is : (what : Shown) (plan : Plan) (b : Played) (text : List ℕ) → IsPlan plan → AreListsReports plan →
+    IsRunOf plan b → Reads text plan → IsReport what text (shown_bytes what b.plan (own_run b))
+report_is what plan b text is reports r e =
     record {
       plan = plan;
       tries = r.tries;
@@ -34,24 +36,27 @@ report_is what plan b text r e =
       are_tries = r.are_tries;
       report = ap (λ (p : Plan). shown_bytes what p (own_run b)) r.same_plan
           ∙ ap (shown_bytes what plan) r.same_run ∙ shown_is what plan (lists plan []) r.tries;
+      safe = run_is_safe plan (lists plan []) r.tries is reports;
     }
 
 pub play_whole : (what : Shown) (plan : Plan) (b : Played) (old new : Option (List ℕ)) (u : Unit {0}) →
-    IsRunOf plan b → Puts {E = SinkFault} old new (Ok u) (shown_bytes what b.plan (own_run b)) →
+    IsPlan plan → AreListsReports plan → IsRunOf plan b →
+    Puts {E = SinkFault} old new (Ok u) (shown_bytes what b.plan (own_run b)) →
     (text : List ℕ) → Reads text plan → WritesOutput (Play what) text old new
-play_whole what plan b old new u r p text e =
+play_whole what plan b old new u is reports r p text e =
     record {
       bytes = shown_bytes what b.plan (own_run b);
-      is_output = report_is what plan b text r e;
+      is_output = report_is what plan b text is reports r e;
       appended = p.all;
     }
 
 pub play_front : (what : Shown) (plan : Plan) (b : Played) (old new : Option (List ℕ)) (fault : SinkFault) →
-    IsRunOf plan b → Puts {T = Unit {0}} old new (Err fault) (shown_bytes what b.plan (own_run b)) →
+    IsPlan plan → AreListsReports plan → IsRunOf plan b →
+    Puts {T = Unit {0}} old new (Err fault) (shown_bytes what b.plan (own_run b)) →
     (text : List ℕ) → Reads text plan → WritesFront (Play what) text old new
-play_front what plan b old new fault r p text e =
+play_front what plan b old new fault is reports r p text e =
     record {
       bytes = shown_bytes what b.plan (own_run b);
-      is_output = report_is what plan b text r e;
+      is_output = report_is what plan b text is reports r e;
       appended = p.front;
     }

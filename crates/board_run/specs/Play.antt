@@ -10,6 +10,7 @@ use Rattle.board_plan.specs.Script.{Refusal, script, Reads}
 use Rattle.board_plan.specs.Canonical.{canonical, moved}
 use Rattle.board_plan.specs.Run.{AreTries, lists}
 use Rattle.board_plan.specs.Text.{full, short, trace}
+use Rattle.board_laws.specs.Safe.{IsRunSafe}
 use Rattle.board_run.specs.declared.command.Shown.{Shown}
 use Rattle.board_run.specs.declared.command.Shown.TheVariants.{Full, Traced, Short}
 use Rattle.board_run.specs.declared.command.Command.{Command}
@@ -48,13 +49,14 @@ shown Traced plan acts tries = trace plan acts tries ++ full plan acts tries
 shown Short plan acts tries = short plan acts tries
 
 -- The bytes show the play of a text: it reads as a plan, the plan makes these tries, where its reporters have the acts
--- that it lists, and the bytes are what is shown of that run.
+-- that it lists, and the bytes are what is shown of that run. And the run is safe.
 pub record IsReport (what : Shown) (text bytes : List ℕ) : Type 0 where
   pub plan : Plan
   pub tries : List Step
   pub reads : Reads text plan
   pub are_tries : AreTries plan (lists plan []) tries
   pub report : bytes ≡ shown what plan (lists plan []) tries
+  pub safe : IsRunSafe plan (lists plan []) tries
 
 -- The bytes are a text in version 2's form: it reads as a plan, the bytes are the canonical text of that plan when it is
 -- moved, and they read as the moved plan.
