@@ -45,7 +45,8 @@ none_made (x ∷ rs) (suc r) = none_made rs r
 abbrev no_act : List Act
 no_act = []
 
-no_acts : (rs : List plan_reporter.Reporter) (r : ℕ) → get_or (map (λ (x : plan_reporter.Reporter). no_act) rs) r [] ≡ []
+no_acts : (rs : List plan_reporter.Reporter) (r : ℕ)
+    → get_or (map (λ (x : plan_reporter.Reporter). no_act) rs) r [] ≡ []
 no_acts [] r = refl
 no_acts (x ∷ rs) zero = refl
 no_acts (x ∷ rs) (suc r) = no_acts rs r

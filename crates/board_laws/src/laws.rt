@@ -9,9 +9,9 @@ ghost use Rattle.board_plan.specs.Laws.{EachRunIsSafe};
 ghost use Rattle.board_laws.specs.Safe.{IsRunSafe};
 
 /// For every plan that a board can be made of, whatever acts its reporters have: at each state of each run the nine
-/// facts hold, what handlers interrupted is amended by their own notes alone and comes back as amended, published blocks
-/// stand until they are acknowledged, and, where the acts are reports, a drain claims a record at most twelve times
-/// before it publishes a copy.
+/// facts hold, what handlers interrupted is amended by their own notes alone and comes back as amended, published
+/// blocks stand until they are acknowledged, and, where the acts are reports, a drain claims a record at most twelve
+/// times before it publishes a copy.
 pub fn each_run_is_safe()
     ensures { EachRunIsSafe }
 {}

@@ -116,7 +116,8 @@ unfolding step reporter_step
 reporter-went b r a c n made played there act next told is =
     let e = is ∙ ap is_step told in
     subst (λ m. Went b.plan b (Reporter r ∷ []) m c) (sym e)
-    (subst (λ (x : Played). Went b.plan b (Reporter r ∷ []) (is_step (note_of (reporter_step r b.plan a (state_of b)))) x)
+    (subst
+    (λ (x : Played). Went b.plan b (Reporter r ∷ []) (is_step (note_of (reporter_step r b.plan a (state_of b)))) x)
     (sym next) (go a (act ∙ reporter-is b r) (reporter_step r b.plan a (state_of b)) refl))
   where
     go : (a : Option Act) → a ≡ next_act (lists b.plan []) r (state_of b) → (o : Option Stepped)
@@ -185,7 +186,8 @@ went-then plan b c d ts us vs m n e p q =
 pub went-on : (plan p : Plan) (b c d : Played) (ts us vs : List Step) (m n j : Bool) → p ≡ plan → vs ≡ ts ++ us
     → Went plan b ts m c → Went p c us n d → (m || n) ≡ j → Went plan b vs j d
 went-on plan p b c d ts us vs m n j same e x y k =
-    subst (λ i. Went plan b vs i d) k (went-then plan b c d ts us vs m n e x (subst (λ (q : Plan). Went q c us n d) same y))
+    subst (λ i. Went plan b vs i d) k
+    (went-then plan b c d ts us vs m n e x (subst (λ (q : Plan). Went q c us n d) same y))
 
 -- no tries
 pub went-nil : (plan : Plan) (b : Played) → Went plan b [] false b

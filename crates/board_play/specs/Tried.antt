@@ -39,7 +39,8 @@ pub record IsAfter (plan : Plan) (b : Played) : Type 0 where
   pub count : ℕ
   pub has : HasTried plan b (rounds plan count)
   pub busy : (k : ℕ) → k < count
-      → 0 < length (notes plan (lists plan []) (run plan (lists plan []) (start_state plan) (rounds plan k)) (round plan))
+      → 0 < length
+      (notes plan (lists plan []) (run plan (lists plan []) (start_state plan) (rounds plan k)) (round plan))
 
 -- the rounds of the plan were played
 pub record HasRounds (plan : Plan) (b : Played) : Type 0 where

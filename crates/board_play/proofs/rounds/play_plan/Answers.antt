@@ -10,8 +10,8 @@ pub returns : goal.returns
 returns c =
     elim c.match-plan.branch [
       | in-Some w ↦
-          run-scheduled c.args.plan.now c.in_ok-board.board _ c.match-plan.board _ _ c.in_ok-board.ensures.fresh w.in-Some.is
-          w.as_slice.ensures w.try_steps.ensures.went w.try_steps.ensures.plan w.board-is
+          run-scheduled c.args.plan.now c.in_ok-board.board _ c.match-plan.board _ _ c.in_ok-board.ensures.fresh
+          w.in-Some.is w.as_slice.ensures w.try_steps.ensures.went w.try_steps.ensures.plan w.board-is
       | in-None w ↦
           run-rounds c.args.plan.now c.in_ok-board.board _ c.match-plan.board c.in_ok-board.ensures.fresh w.in-None.is
           w.try_rounds.ensures.rounds w.try_rounds.ensures.plan w.board-is

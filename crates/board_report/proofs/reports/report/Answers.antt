@@ -14,7 +14,8 @@ unfolding short_bytes
 returns-then-short-clause-bytes g c =
     let b = c.args.board.now in
     let r = own_run b in
-    let made : length c.steps-steps.result.now ≡ length r.notes = ap length (c.steps-steps.ensures.steps ∙ sym c.steps-steps.ensures.played.all_made)
+    let made : length c.steps-steps.result.now ≡ length r.notes =
+    ap length (c.steps-steps.ensures.steps ∙ sym c.steps-steps.ensures.played.all_made)
     ∙ length-map r.notes (λ (n : Noted). n.by) in
     let plan = c.plan.ensures in
     let became = c.fates-fates.ensures in
