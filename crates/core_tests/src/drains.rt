@@ -2,8 +2,8 @@
 
 ghost use Rattle.std.specs.Prelude.{Some};
 
-use crate::bench::{board_of, trace_of, try_steps};
-use board_plan::{Fates, StepNote};
+use crate::bench::play;
+use board_plan::Fates;
 use reri_fields::Phase;
 use std::test::Fail;
 
@@ -51,21 +51,21 @@ const TORN_TRACE: &[u8] = b"1 r0 error 0 0 ued 0 1 0x100 0x0 0x0 0x1 = wrote 1
 
 #[test]
 fn a_torn_copy_is_taken_again(rt: HostRuntime) -> Result<(), Fail> {
-    let mut board = board_of(rt.alloc(), TORN)?;
-    let idle = try_steps(
-        &mut board,
+    let seen = play(
+        rt.alloc(),
+        TORN,
         b"r0 h0 h0 r0 h0 h0 h0 h0 h0 h0 h0 h0 h0 h0 h0 h0 h0 h0 r0",
-    );
-    assert_eq!(rt; idle, 2u64);
-    assert_eq!(rt; trace_of(rt.alloc(), &board)?.as_slice(), TORN_TRACE);
+    )?;
+    assert_eq!(rt; seen.idle, 2u64);
+    assert_eq!(rt; seen.trace.as_slice(), TORN_TRACE);
     let fates = Fates {
         made: 2,
         drained: 1,
         overwritten: 1,
         ..NONE
     };
-    assert_eq!(rt; board.fates(), fates);
-    let [published] = board.published() else {
+    assert_eq!(rt; seen.fates, fates);
+    let [published] = seen.published.as_slice() else {
         return Err(Fail::new("one copy is published"));
     };
     assert_eq!(rt; published.bank, 0);
@@ -77,21 +77,21 @@ fn a_torn_copy_is_taken_again(rt: HostRuntime) -> Result<(), Fail> {
 // a drain that was left before its copy of info
 #[test]
 fn a_drain_stops_on_its_way(rt: HostRuntime) -> Result<(), Fail> {
-    let mut board = board_of(rt.alloc(), TORN)?;
-    assert_eq!(rt; try_steps(&mut board, b"r0 h0 h0 r0 h0"), 0u64);
+    let seen = play(rt.alloc(), TORN, b"r0 h0 h0 r0 h0")?;
+    assert_eq!(rt; seen.idle, 0u64);
     let fates = Fates {
         made: 2,
         overwritten: 1,
         stands: 1,
         ..NONE
     };
-    assert_eq!(rt; board.fates(), fates);
-    assert!(rt; !board.plan().banks.as_slice().is_empty());
-    if board.plan().banks.as_slice().len() > 0 {
-        assert_eq!(rt; board.drain(0), Some((Phase::Info, 0)));
-        assert!(rt; board.bank(0).asks());
-        assert!(rt; board.slot(0).is_free());
-    }
+    assert_eq!(rt; seen.fates, fates);
+    let Some(bank) = &seen.bank else {
+        return Err(Fail::new("there is a bank"));
+    };
+    assert_eq!(rt; bank.drain, Some((Phase::Info, 0)));
+    assert!(rt; bank.asks);
+    assert!(rt; bank.copies.is_empty());
     Ok(())
 }
 
@@ -133,19 +133,19 @@ const STOOD_TRACE: &[u8] = b"1 r0 error 0 0 ce 0 1 0x100 0x0 0x0 0x1 = wrote 1
 
 #[test]
 fn a_newer_error_stands_and_is_drained_next(rt: HostRuntime) -> Result<(), Fail> {
-    let mut board = board_of(rt.alloc(), STOOD)?;
-    try_steps(
-        &mut board,
+    let seen = play(
+        rt.alloc(),
+        STOOD,
         b"r0 h0 h0 h0 h0 h0 h0 h0 r0 h0 h0 h0 h0 h0 h0 h0 h0 h0 h0 h0 h0",
-    );
-    assert_eq!(rt; trace_of(rt.alloc(), &board)?.as_slice(), STOOD_TRACE);
+    )?;
+    assert_eq!(rt; seen.trace.as_slice(), STOOD_TRACE);
     let fates = Fates {
         made: 2,
         drained: 2,
         ..NONE
     };
-    assert_eq!(rt; board.fates(), fates);
-    let [first, second] = board.published() else {
+    assert_eq!(rt; seen.fates, fates);
+    let [first, second] = seen.published.as_slice() else {
         return Err(Fail::new("two copies are published"));
     };
     assert_eq!(rt; first.copy.address, 0x100);
@@ -174,30 +174,27 @@ act 0 error 0 0 uec 2 11 0xb00 0 0 11
 act 0 error 0 0 uec 3 12 0xc00 0 0 12
 ";
 
+// a claim, an error that tears it, and the rest of that try, eleven times; then the last error's drain
+const TRIES: &[u8] = b"r0 h0 \
+h0 r0 h0 h0 h0 h0 h0 h0 r0 h0 h0 h0 h0 h0 h0 r0 h0 h0 h0 h0 h0 h0 r0 h0 h0 h0 h0 h0 \
+h0 r0 h0 h0 h0 h0 h0 h0 r0 h0 h0 h0 h0 h0 h0 r0 h0 h0 h0 h0 h0 h0 r0 h0 h0 h0 h0 h0 \
+h0 r0 h0 h0 h0 h0 h0 h0 r0 h0 h0 h0 h0 h0 h0 r0 h0 h0 h0 h0 h0 \
+h0 h0 h0 h0 h0 h0 h0 h0";
+
 #[test]
 fn eleven_copies_are_torn_and_the_twelfth_is_whole(rt: HostRuntime) -> Result<(), Fail> {
-    let mut board = board_of(rt.alloc(), RISING)?;
-    let mut idle = try_steps(&mut board, b"r0 h0");
-    for _ in 0..11u8 {
-        idle = idle.wrapping_add(try_steps(&mut board, b"h0 r0 h0 h0 h0 h0 h0"));
-    }
-    idle = idle.wrapping_add(try_steps(&mut board, b"h0 h0 h0 h0 h0 h0 h0 h0"));
-    assert_eq!(rt; idle, 0u64);
-    assert_eq!(rt; board.steps().len(), 87);
-    let torn = board
-        .notes()
-        .iter()
-        .filter(|note| matches!(note, StepNote::Check { torn: true, .. }))
-        .count();
-    assert_eq!(rt; torn, 11);
-    assert_eq!(rt; board.published().len(), 1);
+    let seen = play(rt.alloc(), RISING, TRIES)?;
+    assert_eq!(rt; seen.idle, 0u64);
+    assert_eq!(rt; seen.steps, 87);
+    assert_eq!(rt; seen.torn, 11);
+    assert_eq!(rt; seen.published.len(), 1);
     let fates = Fates {
         made: 12,
         drained: 1,
         overwritten: 11,
         ..NONE
     };
-    assert_eq!(rt; board.fates(), fates);
+    assert_eq!(rt; seen.fates, fates);
     Ok(())
 }
 
@@ -214,41 +211,45 @@ act 0 error 0 0 ce 1 3 0x1000 5 0 9
 act 0 error 0 0 ce 1 4 0x2000 6 0 10
 ";
 
+// the first is drained, and the second comes while the block is full
 #[test]
 fn a_second_error_waits_for_the_acknowledgement(rt: HostRuntime) -> Result<(), Fail> {
-    let mut board = board_of(rt.alloc(), SECOND)?;
-    // drained, and then a second one comes while the block is full
-    assert_eq!(rt;
-        try_steps(&mut board, b"r0 h0 h0 h0 h0 h0 h0 h0 h0 h0 r0"),
-        0u64
-    );
-    assert_eq!(rt; board.published().len(), 1);
-    let stands = Fates {
+    let seen = play(rt.alloc(), SECOND, b"r0 h0 h0 h0 h0 h0 h0 h0 h0 h0 r0")?;
+    assert_eq!(rt; seen.idle, 0u64);
+    assert_eq!(rt; seen.published.len(), 1);
+    let fates = Fates {
         made: 2,
         drained: 1,
         stands: 1,
         ..NONE
     };
-    assert_eq!(rt; board.fates(), stands);
-    if board.plan().banks.as_slice().len() > 0 {
-        let [copy] = board.slot(0).copies() else {
-            return Err(Fail::new("one copy stands in the slot"));
-        };
-        assert_eq!(rt; copy.status, 0x30093);
-        assert_eq!(rt; copy.address, 0x1000);
-        assert_eq!(rt; board.drain(0), None);
-    }
-    // the next op, the acknowledgement, and the second drain
-    assert_eq!(rt;
-        try_steps(&mut board, b"h0 h0 h0 h0 h0 h0 h0 h0 h0 h0 h0"),
-        0u64
-    );
-    assert_eq!(rt; try_steps(&mut board, b"h0"), 1u64);
-    let drained = Fates {
+    assert_eq!(rt; seen.fates, fates);
+    let Some(bank) = &seen.bank else {
+        return Err(Fail::new("there is a bank"));
+    };
+    let [copy] = bank.copies.as_slice() else {
+        return Err(Fail::new("one copy stands in the slot"));
+    };
+    assert_eq!(rt; copy.status, 0x30093);
+    assert_eq!(rt; copy.address, 0x1000);
+    assert_eq!(rt; bank.drain, None);
+    Ok(())
+}
+
+// then the next op is made, the block is acknowledged, and the second is drained too
+#[test]
+fn a_second_error_is_drained_after_it(rt: HostRuntime) -> Result<(), Fail> {
+    let seen = play(
+        rt.alloc(),
+        SECOND,
+        b"r0 h0 h0 h0 h0 h0 h0 h0 h0 h0 r0 h0 h0 h0 h0 h0 h0 h0 h0 h0 h0 h0 h0",
+    )?;
+    assert_eq!(rt; seen.idle, 1u64);
+    let fates = Fates {
         made: 2,
         drained: 2,
         ..NONE
     };
-    assert_eq!(rt; board.fates(), drained);
+    assert_eq!(rt; seen.fates, fates);
     Ok(())
 }

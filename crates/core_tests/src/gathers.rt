@@ -2,7 +2,7 @@
 
 ghost use Rattle.std.specs.Prelude.{Some};
 
-use crate::bench::{board_of, trace_of, try_steps};
+use crate::bench::play;
 use std::test::Fail;
 
 // two records, of which the second is to be gathered too
@@ -41,26 +41,27 @@ const GATHER_TRACE: &[u8] = b"1 r0 error 0 0 ce 0 1 0x100 0x0 0x0 0x1 = wrote 1
 
 #[test]
 fn a_drain_gathers_two_copies_and_signals_once(rt: HostRuntime) -> Result<(), Fail> {
-    let mut board = board_of(rt.alloc(), GATHER)?;
-    let idle = try_steps(
-        &mut board,
+    let seen = play(
+        rt.alloc(),
+        GATHER,
         b"r0 r0 h0 h0 h0 h0 h0 h0 h0 h0 h0 h0 h0 h0 h0 h0 h0 h0 h0 h0",
+    )?;
+    assert_eq!(rt; seen.idle, 1u64);
+    assert_eq!(rt; seen.trace.as_slice(), GATHER_TRACE);
+    let Some(bank) = &seen.bank else {
+        return Err(Fail::new("there is a bank"));
+    };
+    let [first, second] = bank.copies.as_slice() else {
+        return Err(Fail::new("two copies stand in the slot"));
+    };
+    assert_eq!(rt; first.status, 0x10083);
+    assert_eq!(rt; second.status, 0x20089);
+    assert_eq!(rt; bank.bytes.len(), 260);
+    let (header, _) = bank.bytes.as_slice().split_at(20);
+    assert_eq!(rt;
+        header,
+        b"\x23\0\0\0\0\0\0\0\0\0\0\0\xf0\0\0\0\x01\0\0\0".as_slice()
     );
-    assert_eq!(rt; idle, 1u64);
-    assert_eq!(rt; trace_of(rt.alloc(), &board)?.as_slice(), GATHER_TRACE);
-    if board.plan().banks.as_slice().len() > 0 {
-        let [first, second] = board.slot(0).copies() else {
-            return Err(Fail::new("two copies stand in the slot"));
-        };
-        assert_eq!(rt; first.status, 0x10083);
-        assert_eq!(rt; second.status, 0x20089);
-        let bytes = board.slot(0).bytes();
-        assert_eq!(rt; bytes.len(), 260);
-        assert_eq!(rt;
-            &bytes[..20],
-            b"\x23\0\0\0\0\0\0\0\0\0\0\0\xf0\0\0\0\x01\0\0\0".as_slice()
-        );
-    }
     Ok(())
 }
 
@@ -103,20 +104,21 @@ const SHARED_TRACE: &[u8] = b"1 r0 error 0 0 ce 0 1 0x100 0x0 0x0 0x1 = wrote 1
 
 #[test]
 fn an_acknowledgement_amid_a_drain_empties_the_block(rt: HostRuntime) -> Result<(), Fail> {
-    let mut board = board_of(rt.alloc(), SHARED)?;
-    try_steps(
-        &mut board,
+    let seen = play(
+        rt.alloc(),
+        SHARED,
         b"r0 r0 h0 h0 h0 h0 h0 h0 h0 h0 h1 h0 h0 h0 h0 h0 h0 h0 h0 h0",
+    )?;
+    assert_eq!(rt; seen.trace.as_slice(), SHARED_TRACE);
+    assert_eq!(rt; seen.fates.drained, 2);
+    let Some(bank) = &seen.bank else {
+        return Err(Fail::new("there is a bank"));
+    };
+    assert_eq!(rt; bank.bytes.len(), 140);
+    let (header, _) = bank.bytes.as_slice().split_at(20);
+    assert_eq!(rt;
+        header,
+        b"\x11\0\0\0\0\0\0\0\0\0\0\0\x78\0\0\0\x01\0\0\0".as_slice()
     );
-    assert_eq!(rt; trace_of(rt.alloc(), &board)?.as_slice(), SHARED_TRACE);
-    assert_eq!(rt; board.fates().drained, 2);
-    if board.plan().banks.as_slice().len() > 0 {
-        let bytes = board.slot(0).bytes();
-        assert_eq!(rt; bytes.len(), 140);
-        assert_eq!(rt;
-            &bytes[..20],
-            b"\x11\0\0\0\0\0\0\0\0\0\0\0\x78\0\0\0\x01\0\0\0".as_slice()
-        );
-    }
     Ok(())
 }

@@ -1,6 +1,8 @@
 //! Steps of harts: user mode, calls that are refused, and harts without a step.
 
-use crate::bench::{board_of, played, trace_of, try_steps};
+ghost use Rattle.std.specs.Prelude.{Some};
+
+use crate::bench::play;
 use board_plan::Counts;
 use hart_ctx::{Privilege, Saved};
 use sse_base::{EventId, Instance};
@@ -33,28 +35,25 @@ const USER_TRACE: &[u8] = b"1 h0 call 0x535345 0x8 0x0 0x0 0x0 0x0 0x0 = 0
 
 #[test]
 fn a_user_makes_no_calls_and_is_interrupted(rt: HostRuntime) -> Result<(), Fail> {
-    let mut board = board_of(rt.alloc(), USER)?;
-    assert_eq!(rt; try_steps(&mut board, b"h0 h0 h0 h0 h0 h0 r0 h0"), 0u64);
-    assert_eq!(rt; trace_of(rt.alloc(), &board)?.as_slice(), USER_TRACE);
-    let regs = *board.firmware().regs(0);
-    assert_eq!(rt; regs.pc, 0x2000);
-    assert_eq!(rt; regs.privilege, Privilege::Supervisor);
-    assert_eq!(rt; regs.sepc, 0x1104);
-    assert!(rt; !regs.spp);
-    assert!(rt; !regs.spie);
-    if board.firmware().depth(0) > 0 {
-        let saved = Saved {
-            sepc: 0x1100,
-            flags: 2,
-            a6: 0,
-            a7: 0,
-        };
-        let at = Instance::Local {
-            id: EventId(0xffff_0000),
-            hart: 0,
-        };
-        assert_eq!(rt; board.firmware().running(0, 0), (at, saved));
-    }
+    let seen = play(rt.alloc(), USER, b"h0 h0 h0 h0 h0 h0 r0 h0")?;
+    assert_eq!(rt; seen.idle, 0u64);
+    assert_eq!(rt; seen.trace.as_slice(), USER_TRACE);
+    assert_eq!(rt; seen.regs.pc, 0x2000);
+    assert_eq!(rt; seen.regs.privilege, Privilege::Supervisor);
+    assert_eq!(rt; seen.regs.sepc, 0x1104);
+    assert!(rt; !seen.regs.spp);
+    assert!(rt; !seen.regs.spie);
+    let at = Instance::Local {
+        id: EventId(0xffff_0000),
+        hart: 0,
+    };
+    let saved = Saved {
+        sepc: 0x1100,
+        flags: 2,
+        a6: 0,
+        a7: 0,
+    };
+    assert_eq!(rt; seen.running, Some((at, saved)));
     Ok(())
 }
 
@@ -80,22 +79,22 @@ const HOSTILE_TRACE: &[u8] = b"1 h0 call 0x535345 0x6 0x0 0x0 0x0 0x0 0x0 = 0
 
 #[test]
 fn wild_calls_change_nothing(rt: HostRuntime) -> Result<(), Fail> {
-    let mut board = board_of(rt.alloc(), HOSTILE)?;
-    let idle = try_steps(&mut board, b"h0 h0 h0 h0 h0 h0 h0 h1");
-    assert_eq!(rt; idle, 2u64);
-    assert_eq!(rt; trace_of(rt.alloc(), &board)?.as_slice(), HOSTILE_TRACE);
+    let seen = play(rt.alloc(), HOSTILE, b"h0 h0 h0 h0 h0 h0 h0 h1")?;
+    assert_eq!(rt; seen.idle, 2u64);
+    assert_eq!(rt; seen.trace.as_slice(), HOSTILE_TRACE);
     let counts = Counts {
         steps: 6,
         calls: 4,
         failed: 3,
         last: -10,
     };
-    assert_eq!(rt; board.counts(0), counts);
-    assert_eq!(rt; board.firmware().regs(0).pc, 0x7);
+    assert_eq!(rt; seen.counts, counts);
+    assert_eq!(rt; seen.regs.pc, 0x7);
+    assert_eq!(rt; seen.running, None);
     Ok(())
 }
 
-// an op stands where the first hart begins; the second may make one step, and no op stands where the third begins
+// an op stands where the first two harts begin, of which the second may make one step; none where the third begins
 const BUDGETS: &[u8] = b"board 1 3
 op jump 0x1000
 start 0 0x1000 0
@@ -105,7 +104,9 @@ start 2 0x2000 9
 
 #[test]
 fn a_spent_budget_leaves_no_step(rt: HostRuntime) -> Result<(), Fail> {
-    let trace = played(rt.alloc(), BUDGETS, b"h0 h1 h2 h0 h1 h2")?;
-    assert_eq!(rt; trace.as_slice(), b"1 h1 jump 0x1000\n".as_slice());
+    let seen = play(rt.alloc(), BUDGETS, b"h0 h1 h2 h0 h1 h2")?;
+    assert_eq!(rt; seen.idle, 5u64);
+    assert_eq!(rt; seen.places, 10);
+    assert_eq!(rt; seen.trace.as_slice(), b"1 h1 jump 0x1000\n".as_slice());
     Ok(())
 }

@@ -1,9 +1,6 @@
 //! Random lists of calls on a board that has everything.
 
-use crate::bench::{board_of, trace_of, try_step};
-use board_core::Board;
-use board_plan::Step;
-use std::alloc::Global;
+use crate::bench::play_drawn;
 use std::test::Fail;
 
 // events of both scopes, banks of both scopes, gathered copies, two reporters, acknowledgements and an unplug
@@ -64,47 +61,17 @@ act 1 error 1 1 ce 0 10 0xa00 0 0 10
 act 1 raise 0x100000 2
 ";
 
-// the next number of a linear congruential generator
-fn next(state: &mut u64) -> u64 {
-    *state = state
-        .wrapping_mul(6364136223846793005)
-        .wrapping_add(1442695040888963407);
-    *state >> 33
-}
-
-// the board after so many tries that are drawn at random, most of them harts'
-fn drawn(alloc: Global, seed: u64, count: u16) -> Result<Board, Fail> {
-    let mut board = board_of(alloc, EVERYTHING)?;
-    let mut state = seed;
-    for _ in 0..count {
-        let who = next(&mut state) % 16;
-        let step = if who < 12 {
-            Step::Hart((who % 4) as u8)
-        } else {
-            Step::Reporter((who % 3) as u8)
-        };
-        try_step(&mut board, step);
-    }
-    Ok(board)
-}
-
 #[test]
 fn the_same_calls_leave_the_same_board(rt: HostRuntime) -> Result<(), Fail> {
     for seed in 1..6u64 {
-        let a = drawn(rt.alloc(), seed, 400)?;
-        let b = drawn(rt.alloc(), seed, 400)?;
-        assert_eq!(rt; a.steps(), b.steps());
-        assert_eq!(rt; a.notes(), b.notes());
-        assert_eq!(rt; a.published(), b.published());
-        assert_eq!(rt; a.fates(), b.fates());
-        assert_eq!(rt;
-            a.firmware().memory().words(),
-            b.firmware().memory().words()
-        );
-        let trace = trace_of(rt.alloc(), &a)?;
-        assert_eq!(rt; trace.as_slice(), trace_of(rt.alloc(), &b)?.as_slice());
-        assert!(rt; a.steps().len() > 200);
-        assert_eq!(rt; a.steps().len(), a.notes().len());
+        let a = play_drawn(rt.alloc(), EVERYTHING, seed, 400)?;
+        let b = play_drawn(rt.alloc(), EVERYTHING, seed, 400)?;
+        assert!(rt; a.steps > 200);
+        assert_eq!(rt; a.idle, b.idle);
+        assert_eq!(rt; a.trace.as_slice(), b.trace.as_slice());
+        assert_eq!(rt; a.published.as_slice(), b.published.as_slice());
+        assert_eq!(rt; a.fates, b.fates);
+        assert_eq!(rt; a.regs, b.regs);
     }
     Ok(())
 }

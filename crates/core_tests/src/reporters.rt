@@ -2,7 +2,7 @@
 
 ghost use Rattle.std.specs.Prelude.{Some};
 
-use crate::bench::{board_of, trace_of, try_steps};
+use crate::bench::play;
 use ras_device::Act;
 use std::test::Fail;
 
@@ -25,13 +25,13 @@ const STRAY_TRACE: &[u8] = b"1 r0 error 9 0 ce 0 0 0x0 0x0 0x0 0x0 = stray
 
 #[test]
 fn what_hits_nothing_is_stray(rt: HostRuntime) -> Result<(), Fail> {
-    let mut board = board_of(rt.alloc(), STRAY)?;
-    assert_eq!(rt; try_steps(&mut board, b"r0 r0 r0 r0 r0 h0"), 2u64);
-    assert_eq!(rt; trace_of(rt.alloc(), &board)?.as_slice(), STRAY_TRACE);
-    assert_eq!(rt; board.fates().made, 1);
-    assert_eq!(rt; board.fates().stray, 1);
-    assert!(rt; !board.wants(0));
-    assert_eq!(rt; board.listed(0), None);
+    let seen = play(rt.alloc(), STRAY, b"r0 r0 r0 r0 r0 h0")?;
+    assert_eq!(rt; seen.idle, 2u64);
+    assert_eq!(rt; seen.trace.as_slice(), STRAY_TRACE);
+    assert_eq!(rt; seen.fates.made, 1);
+    assert_eq!(rt; seen.fates.stray, 1);
+    assert!(rt; !seen.wants);
+    assert_eq!(rt; seen.listed, None);
     Ok(())
 }
 
@@ -62,25 +62,23 @@ const UNPLUG_TRACE: &[u8] = b"1 r0 error 0 0 ce 0 1 0x100 0x0 0x0 0x1 = wrote 1
 
 #[test]
 fn an_unplugged_reporter_makes_no_more(rt: HostRuntime) -> Result<(), Fail> {
-    let mut board = board_of(rt.alloc(), UNPLUG)?;
-    assert!(rt; board.wants(0));
-    let idle = try_steps(&mut board, b"r0 h0 h0 h1 r0 h0 h0 h0 h0 h0 h0 h0 r0 h0");
-    assert_eq!(rt; idle, 3u64);
-    assert_eq!(rt; trace_of(rt.alloc(), &board)?.as_slice(), UNPLUG_TRACE);
-    assert_eq!(rt; board.fates().made, 1);
-    assert_eq!(rt; board.fates().drained, 1);
-    assert!(rt; !board.wants(0));
-    assert!(rt; !board.wants(1));
-    assert!(rt; board.is_list(0));
-    if board.plan().reporters.as_slice().len() > 0 {
-        let [Act::Error(made)] = board.acts(0) else {
-            return Err(Fail::new("one error was made"));
-        };
-        assert_eq!(rt; made.address, 0x100);
-        let Some(Act::Error(next)) = board.listed(0) else {
-            return Err(Fail::new("one error is left"));
-        };
-        assert_eq!(rt; next.address, 0x200);
-    }
+    let seen = play(
+        rt.alloc(),
+        UNPLUG,
+        b"r0 h0 h0 h1 r0 h0 h0 h0 h0 h0 h0 h0 r0 h0",
+    )?;
+    assert_eq!(rt; seen.idle, 3u64);
+    assert_eq!(rt; seen.trace.as_slice(), UNPLUG_TRACE);
+    assert_eq!(rt; seen.fates.made, 1);
+    assert_eq!(rt; seen.fates.drained, 1);
+    assert!(rt; !seen.wants);
+    let [Act::Error(made)] = seen.acts.as_slice() else {
+        return Err(Fail::new("one error was made"));
+    };
+    assert_eq!(rt; made.address, 0x100);
+    let Some(Act::Error(next)) = seen.listed else {
+        return Err(Fail::new("one error is left"));
+    };
+    assert_eq!(rt; next.address, 0x200);
     Ok(())
 }
