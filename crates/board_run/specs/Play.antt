@@ -58,7 +58,7 @@ pub record IsReport (what : Shown) (text bytes : List ℕ) : Type 0 where
   pub report : bytes ≡ shown what plan (lists plan []) tries
   pub safe : IsRunSafe plan (lists plan []) tries
 
--- The bytes are a text in version 2's form: it reads as a plan, the bytes are the canonical text of that plan when it
+-- The bytes are a text in version 2's form: it reads as a plan, the bytes are the canonical text of that plan once it
 -- is moved, and they read as the moved plan.
 pub record IsMove (text bytes : List ℕ) : Type 0 where
   pub plan : Plan

@@ -68,7 +68,7 @@ fn play_as<S: Source, K: Sink>(
     write_output(alloc, command, plan, sink)
 }
 
-/// Reads a whole script from the source, does with it what the words say, and writes the output of that to the sink,
+/// Reads a whole script from the source, does with it what the words say, and writes what comes of that to the sink,
 /// each line in one write. The words are those behind the program's name:
 ///
 /// - `play` plays the script and writes the full report of its run, `play --trace` the trace before it, and
