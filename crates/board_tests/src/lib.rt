@@ -1,5 +1,21 @@
-//! Tests of the top call.
+//! Tests of the top call: scripts that are played or moved, and what comes of them.
 #![tactic(auto)]
 
 #[cfg(test)]
-mod play;
+mod drains;
+#[cfg(test)]
+mod faults;
+#[cfg(test)]
+mod first;
+#[cfg(test)]
+mod handlers;
+#[cfg(test)]
+mod plays;
+#[cfg(test)]
+mod refusals;
+#[cfg(test)]
+mod reporters;
+#[cfg(test)]
+mod second;
+#[cfg(test)]
+mod supervisors;
