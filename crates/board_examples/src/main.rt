@@ -49,6 +49,10 @@ fn play_all<R: Files + Print + AllocGlobal>(rt: &R) -> io::Result<bool> {
 fn main(rt: HostRuntime) -> ExitCode {
     match play_all(&rt) {
         Ok(true) => ExitCode::SUCCESS,
-        _ => ExitCode::FAILURE,
+        Ok(false) => ExitCode::FAILURE,
+        Err(error) => {
+            let _ = rt.eprintln(error);
+            ExitCode::FAILURE
+        }
     }
 }
