@@ -1,3 +1,4 @@
 -- Lemmas on what is written.
 pub mod Joined
+pub mod Moved
 pub mod Written

@@ -10,6 +10,7 @@ use Rattle.board_plan.specs.Script.{Refusal, script, Reads}
 use Rattle.board_plan.specs.Canonical.{canonical, moved}
 use Rattle.board_plan.specs.Run.{AreTries, lists}
 use Rattle.board_plan.specs.Text.{full, short, trace}
+use Rattle.move_laws.specs.Moves.{AreRunsKept, AreTracesKept, AreTriesKept, AreActsKept, AreReportsKept}
 use Rattle.board_laws.specs.Safe.{IsRunSafe}
 use Rattle.board_run.specs.declared.command.Shown.{Shown}
 use Rattle.board_run.specs.declared.command.Shown.TheVariants.{Full, Traced, Short}
@@ -59,12 +60,18 @@ pub record IsReport (what : Shown) (text bytes : List ℕ) : Type 0 where
   pub safe : IsRunSafe plan (lists plan []) tries
 
 -- The bytes are a text in version 2's form: it reads as a plan, the bytes are the canonical text of that plan once it
--- is moved, and they read as the moved plan.
+-- is moved, and they read as the moved plan. That one makes the same tries and runs, and its reporters have the same
+-- acts; its traces are the same, and its reports are, but for the version.
 pub record IsMove (text bytes : List ℕ) : Type 0 where
   pub plan : Plan
   pub reads : Reads text plan
   pub moves : bytes ≡ canonical (moved plan)
   pub reads_again : Reads bytes (moved plan)
+  pub same_acts : AreActsKept plan
+  pub same_tries : AreTriesKept plan
+  pub same_runs : AreRunsKept plan
+  pub same_traces : AreTracesKept plan
+  pub same_reports : AreReportsKept plan
 
 -- the bytes that a command writes for a text
 abbrev pub IsOutput : Command → List ℕ → List ℕ → Type 0

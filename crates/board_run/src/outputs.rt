@@ -5,6 +5,7 @@ ghost use Rattle.ras_io.specs.Causes.{HasCause, Puts, Rose};
 ghost use Rattle.board_plan.specs.Script.{Reads};
 ghost use Rattle.board_plan.specs.Canonical.{canonical, moved};
 ghost use Rattle.board_plan.specs.Plans.{IsPlan};
+ghost use Rattle.move_laws.specs.Moves.{GathersByVersion};
 ghost use Rattle.board_core.specs.Played.{AreListsReports, own_run};
 ghost use Rattle.board_run.specs.Play.{is_silent, is_write_fault};
 ghost use Rattle.board_run.specs.Parts.{shown_bytes, Wrote};
@@ -62,6 +63,7 @@ fn write_play<K: Sink>(alloc: Global, what: Shown, plan: &Plan, sink: &mut K) ->
 
 /// Moves a plan to version 2, and writes its canonical text.
 fn write_move<K: Sink>(mut plan: Plan, sink: &mut K) -> Status
+    requires { GathersByVersion plan }
     ensures wrote { Wrote Command.Move plan (K.written sink.old) (K.written sink.new) result }
     ensures fault { result ≡ Status.WriteFault → Rose (K.faults sink.old) (K.faults sink.new) }
     ensures kept { is_write_fault result ≡ false → K.faults sink.new ≡ K.faults sink.old }
@@ -83,6 +85,7 @@ pub(crate) fn write_output<K: Sink>(
 ) -> Status
     requires plan { IsPlan plan }
     requires reports { AreListsReports plan }
+    requires gathers { GathersByVersion plan }
     ensures wrote { Wrote command plan (K.written sink.old) (K.written sink.new) result }
     ensures fault { result ≡ Status.WriteFault → Rose (K.faults sink.old) (K.faults sink.new) }
     ensures kept { is_write_fault result ≡ false → K.faults sink.new ≡ K.faults sink.old }

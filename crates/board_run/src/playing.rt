@@ -73,7 +73,8 @@ fn play_as<S: Source, K: Sink>(
 ///
 /// - `play` plays the script and writes the full report of its run, `play --trace` the trace before it, and
 ///   `play --short` the short report in its place;
-/// - `move` writes the script in version 2's form.
+/// - `move` writes the script in version 2's form; that form makes the same tries and runs, and its reports are the
+///   same but for the version.
 ///
 /// The answers, in the order in which they are looked for: Usage, ReadFault, TooLong, NoMemory, BadScript, NoMemory
 /// again, WriteFault. The rules are this project's own.

@@ -1,5 +1,5 @@
 -- The plan of a script is one that a board can be made of.
-use Rattle.std.proofs.Common.{◌≡◌, ℕ, ◌+◌, ◌*◌, ◌<◌, ◌≤◌, ◌==◌, Bool, true, false, ◌||◌, if◌then◌else◌, List, [], ◌∷◌, ◌++◌, length, slice_get, Option, Some, None, IfOk, Result, Ok, Err, refl, sym, ap, ◌∙◌, subst, arith, length-append, sum_by}
+use Rattle.std.proofs.Common.{◌≡◌, ℕ, ◌+◌, ◌*◌, ◌<◌, ◌≤◌, ◌==◌, ◌⊎◌, inl, inr, Bool, true, false, ◌||◌, if◌then◌else◌, List, [], ◌∷◌, ◌++◌, length, slice_get, Option, Some, None, IfOk, Result, Ok, Err, refl, sym, ap, ◌∙◌, subst, arith, length-append, sum_by}
 use Rattle.std.proofs.lemmas.Bool.{eqb-true, eq-eqb, or_left, or_right, or_from, and_from, not_from_false}
 use Rattle.std.proofs.lemmas.List.Sums.{sum_by-cons}
 use Rattle.std.proofs.lemmas.List.Folds.{list_any-append}
@@ -18,6 +18,7 @@ use Rattle.board_plan.specs.Plans.{IsPlan, AreReports}
 use Rattle.board_plan.specs.Run.{acts_from, lists}
 use Rattle.board_plan.specs.declared.notes.Step.{Step}
 use Rattle.board_plan.specs.declared.notes.Step.TheVariants as step
+use Rattle.move_laws.specs.Moves.{GathersByVersion}
 use Rattle.board_script.specs.Reading.{IsOfBoard, EntriesAreOfBoard}
 use Rattle.board_script.proofs.Chains.{Each, Each-at, EachFits}
 use Rattle.board_script.proofs.Fits.{EventFits, RecFits, StartFits, ActFits, SourceFits, ReporterFits, StepFits, PlanFits}
@@ -177,6 +178,15 @@ script_names : (text : List ℕ) (p : Plan) → Reads text p → EntriesAreOfBoa
 script_names text p e i t is_t =
     step_named p t (Each-at _ (steps_of p.schedule) i t (script_fits text p e).schedule.each is_t)
 
+-- ---- What banks gather ----
+
+by_version : (p : Plan) → PlanFits p → (p.version ≡ 1) ⊎ (p.version ≡ 2) → GathersByVersion p
+by_version p f (inl one) = inr (one, λ i d is. (Each-at _ p.banks i d f.banks.each is).gather.2 one)
+by_version p f (inr two) = inl two
+
+script_gathers : (text : List ℕ) (p : Plan) → Reads text p → GathersByVersion p
+script_gathers text p e = let f = script_fits text p e in by_version p f f.head.known
+
 -- ---- What is answered ----
 
 module _ {E : Type 0} (text : List ℕ) where
@@ -191,3 +201,7 @@ module _ {E : Type 0} (text : List ℕ) where
   pub answered_entries : (r : Result Plan E) → IfOk r (λ p. Reads text p) → IfOk r (λ p. EntriesAreOfBoard p)
   answered_entries (Ok p) e = script_names text p e
   answered_entries (Err x) e = tt
+
+  pub answered_gathers : (r : Result Plan E) → IfOk r (λ p. Reads text p) → IfOk r (λ p. GathersByVersion p)
+  answered_gathers (Ok p) e = script_gathers text p e
+  answered_gathers (Err x) e = tt

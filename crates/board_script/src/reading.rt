@@ -14,6 +14,7 @@ ghost use Rattle.board_plan.specs.Script.{
 };
 ghost use Rattle.board_plan.specs.Plans.{IsPlan, AreReports};
 ghost use Rattle.board_plan.specs.Run.{lists};
+ghost use Rattle.move_laws.specs.Moves.{GathersByVersion};
 ghost use Rattle.board_script.specs.Reading.{texts, Moves, IsFault, Passes, EntriesAreOfBoard};
 
 use crate::fault::{ReadFault, ScriptError};
@@ -188,7 +189,7 @@ fn follow<'a>(begun: Begun<'a>, into: &mut Vec<&'a [u8]>) -> Result<Plan, Script
 /// Reads a script. BadLine comes exactly where the text isn't one: the first line that is refused, and
 /// why. NoMemory comes where no memory is found. A plan that is read is one that a board can be made of, and each
 /// error that its reporters act has a priority below 4; the entries of its schedule name harts and reporters of the
-/// board. The form of scripts is this project's own.
+/// board; and in version 1 each bank gathers one copy. The form of scripts is this project's own.
 #[tactic(auto, unfolding(board_plan::specs::Script::script))]
 pub fn read(alloc: Global, text: &[u8]) -> Result<Plan, ScriptError>
     requires { length text.now + 1 < 2 ^ 32 }
@@ -196,6 +197,7 @@ pub fn read(alloc: Global, text: &[u8]) -> Result<Plan, ScriptError>
     ensures is_plan { IfOk result (λ plan. IsPlan plan) }
     ensures reports { IfOk result (λ plan. AreReports (lists plan [])) }
     ensures entries { IfOk result (λ plan. EntriesAreOfBoard plan) }
+    ensures gathers { IfOk result (λ plan. GathersByVersion plan) }
     ensures refused { IfErr result (λ e. IsFault e (script text.now)) }
 {
     let mut words = Vec::new(alloc);

@@ -1,7 +1,7 @@
 -- Goals of `read` that the tactics leave open.
 use Rattle.std.proofs.Common.{rules}
 use Rattle.board_plan.specs.Script.{script}
-use Rattle.board_script.proofs.Boards.{answered_plan, answered_reports, answered_entries}
+use Rattle.board_script.proofs.Boards.{answered_plan, answered_reports, answered_entries, answered_gathers}
 use Rattle.board_script.proofs.reading.read.Goals as goal
 
 pub returns-clause-is_plan : goal.returns-clause-is_plan
@@ -15,3 +15,7 @@ returns-clause-reports c = answered_reports c.args.text.now _ (search rules)
 pub returns-clause-entries : goal.returns-clause-entries
 unfolding script
 returns-clause-entries c = answered_entries c.args.text.now _ (search rules)
+
+pub returns-clause-gathers : goal.returns-clause-gathers
+unfolding script
+returns-clause-gathers c = answered_gathers c.args.text.now _ (search rules)

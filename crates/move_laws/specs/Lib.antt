@@ -1,0 +1,2 @@
+-- What a move to version 2 keeps.
+pub mod Moves
