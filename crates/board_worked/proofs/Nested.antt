@@ -1,6 +1,6 @@
 -- A more urgent event interrupts a handler. Both handlers write to what they interrupted, and each completion goes on
 -- with the interrupted context as these writes amended it.
-use Rattle.std.proofs.Common.{◌≡◌, ℕ, false, List, [], ◌∷◌, ◌++◌, Option, Some, refl}
+use Rattle.std.proofs.Common.{◌≡◌, ℕ, true, false, List, [], ◌∷◌, ◌++◌, Option, Some, refl}
 use Rattle.std.specs.Prelude.{replicate, map}
 use Rattle.sse_base.specs.declared.contexts.Privilege.TheVariants.{User, Supervisor}
 use Rattle.sse_base.specs.declared.ids.Instance.TheVariants.{Local}
@@ -105,6 +105,10 @@ pub record Nested : Type 0 where
       amend 1 (outer ∷ []) (context 0x101c Supervisor false 0 0)
       (notes_on outer_runs (to_inner ++ in_inner ++ h0 ∷ []) ++ notes_on inner_is_done in_outer)
       ≡ context 0x1030 Supervisor false 0 0
+  pub they_leave_its_other_registers :
+      amend 1 (outer ∷ []) (context 0x1020 Supervisor true 0x11 0x22)
+      (notes_on outer_runs (to_inner ++ in_inner ++ h0 ∷ []) ++ notes_on inner_is_done in_outer)
+      ≡ context 0x1030 Supervisor true 0x11 0x22
   pub the_notes_amend_the_base_so :
       triple_of (amend 0 [] (context 0 User false 0 0)
       (notes_on (start_state plan) (to_outer ++ to_inner ++ in_inner ++ h0 ∷ (in_outer ++ h0 ∷ []))))
@@ -126,5 +130,6 @@ nested = record {
   sepc_is_then_what_the_outer_one_wrote = refl;
   the_notes_amend_the_inner_ones_context_so = refl;
   the_notes_amend_the_outer_ones_context_so = refl;
+  they_leave_its_other_registers = refl;
   the_notes_amend_the_base_so = refl;
 }
