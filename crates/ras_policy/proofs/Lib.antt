@@ -1,0 +1,5 @@
+pub mod Rising
+pub mod Groups
+pub mod Stepping
+pub mod Listed
+pub mod Standing

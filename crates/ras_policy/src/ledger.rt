@@ -1,14 +1,14 @@
 //! A ledger of the pages on which errors were published.
 
-ghost use Rattle.std.specs.Prelude.{◌≡◌, ℕ, ◌<◌, ◌≤◌, ◌^◌, ◌+◌, ◌++◌, [], ◌∷◌, List, length, IfOk, MatchOption, true, false};
+ghost use Rattle.std.specs.Prelude.{◌≡◌, ℕ, ◌<◌, ◌≤◌, ◌^◌, ◌+◌, ◌++◌, [], ◌∷◌, List, length, IfOk, IfSome, is_some};
 ghost use Rattle.std.specs.List.{list_any};
 ghost use Rattle.board_plan.specs.declared.notes.Published.{Published};
 ghost use Rattle.ras_policy.specs.Retired.{is_on, numbers_of, pages_of};
 ghost use Rattle.ras_policy.specs.Grouped.{mark_of};
 ghost use Rattle.ras_policy.specs.Books.{StandsFor};
 
-use crate::grouping::{all_grouped, by_page, keep_listed};
-use crate::marks::{Mark, Page, first_of, mark_of, with_mark};
+use crate::grouping::{all_grouped, any_on, by_page, count_on, keep_listed};
+use crate::marks::{Mark, Page, mark_of};
 use board_plan::Published;
 use ras_io::NoMemory;
 use std::alloc::Global;
@@ -46,6 +46,7 @@ impl Ledger {
     }
 
     /// The same for more room.
+    #[tactic(auto, using(crate::proofs::Standing::none_stands))]
     pub(crate) fn with_room(alloc: Global, room: usize) -> Result<Ledger, NoMemory>
         requires { room < 2 ^ 32 }
         ensures empty { IfOk result (λ l. StandsFor [] l) }
@@ -57,6 +58,7 @@ impl Ledger {
     }
 
     /// Counts a published copy to its page. It takes no memory.
+    #[tactic(auto, using(crate::proofs::Standing::more_stands))]
     pub fn add(&mut self, published: &Published)
         requires { length self.old.marks < self.old.room }
         ensures copies { (copies : List Published) → StandsFor copies self.old
@@ -71,17 +73,24 @@ impl Ledger {
     }
 
     /// The numbers of a page. None where no copy of that page was added.
+    #[tactic(auto, using(crate::proofs::Standing::numbers_are))]
     pub fn page(&self, page: u64) -> Option<Page>
         ensures none { (copies : List Published) → StandsFor copies self.now
-            → MatchOption result (list_any (is_on page) copies ≡ false) (λ _. list_any (is_on page) copies ≡ true) }
+            → is_some result ≡ list_any (is_on page) copies }
         ensures numbers { (copies : List Published) → StandsFor copies self.now
-            → MatchOption result (list_any (is_on page) copies ≡ false) (λ p. p ≡ numbers_of copies page) }
+            → IfSome result (λ p. p ≡ numbers_of copies page) }
     {
-        None
+        let marks = self.marks.as_slice();
+        if any_on(marks, page) {
+            Some(count_on(marks, page))
+        } else {
+            None
+        }
     }
 
     /// The pages to retire, by rising page: those with at least `threshold` copies whose greatest severity is CE, or
     /// at least one whose greatest is UED or UEC. `NoMemory` comes where no room for the list was found.
+    #[tactic(auto, using(crate::proofs::Standing::list_is))]
     pub fn list(&self, alloc: Global, threshold: u16) -> Result<Vec<Page>, NoMemory>
         ensures { (copies : List Published) → StandsFor copies self.now
             → IfOk result (λ v. v.items ≡ pages_of threshold copies) }
