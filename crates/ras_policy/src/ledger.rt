@@ -46,7 +46,6 @@ impl Ledger {
     }
 
     /// The same for more room.
-    #[tactic(auto, using(crate::proofs::Standing::none_stands))]
     pub(crate) fn with_room(alloc: Global, room: usize) -> Result<Ledger, NoMemory>
         requires { room < 2 ^ 32 }
         ensures empty { IfOk result (λ l. StandsFor [] l) }
@@ -58,7 +57,6 @@ impl Ledger {
     }
 
     /// Counts a published copy to its page. It takes no memory.
-    #[tactic(auto, using(crate::proofs::Standing::more_stands))]
     pub fn add(&mut self, published: &Published)
         requires { length self.old.marks < self.old.room }
         ensures copies { (copies : List Published) → StandsFor copies self.old
