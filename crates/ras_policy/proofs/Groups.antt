@@ -1,12 +1,13 @@
 -- The pages into which marks are grouped: they rise, and say of each page what the marks say.
-use Rattle.std.proofs.Common.{◌≡◌, ℕ, suc, ◌+◌, ◌<◌, ◌≤◌, ◌==◌, ◌&&◌, ◌||◌, Bool, true, false, cond, List, [], ◌∷◌, length, get_or, refl, inl, inr, sym, ap, ◌∙◌, subst, arith}
+use Rattle.std.proofs.Common.{◌≡◌, ℕ, suc, ◌+◌, ◌<◌, ◌≤◌, ◌==◌, ◌&&◌, ◌||◌, Bool, true, false, cond, List, [], ◌∷◌, refl, inl, inr, sym, ap, ◌∙◌, subst, arith}
 use Rattle.std.specs.List.{count_by, list_any}
 use Rattle.std.specs.List.Sorted.{IsNonDecreasingBy}
 use Rattle.std.proofs.lemmas.Bool.{cases_Bool, eqb-true, eqb-false}
 use Rattle.std.proofs.lemmas.List.Sums.{sum_by-cons}
 use Rattle.ras_policy.specs.declared.marks.Mark.{Mark}
 use Rattle.ras_policy.specs.declared.marks.Page.{Page}
-use Rattle.ras_policy.specs.Grouped.{one_if, marks_corrected, marks_uncorrected, with_mark, first_of, grouped, all_grouped}
+use Rattle.ras_policy.specs.Grouped.{one_if, with_mark, first_of, grouped, all_grouped}
+use Rattle.ras_policy.specs.Books.{marks_corrected, marks_uncorrected}
 use Rattle.ras_policy.proofs.Rising.{corrected_at, uncorrected_at, has, Above, Rises}
 
 -- what marks say of a page
@@ -51,15 +52,15 @@ grouped_corrected p c (m ∷ ms) =
     let both : Bool → List Page = λ b. cond b (grouped (with_mark m c) ms) (c ∷ grouped (first_of m) ms) in
     elim (cases_Bool (m.page == c.page)) [
       | inl is ↦
-        let one : c.page ≡ m.page = sym (eqb-true m.page c.page is) in
-        ap (λ b. corrected_at p (both b)) is ∙ grouped_corrected p (with_mark m c) ms
-        ∙ counted_here (c.page == p) w c.corrected k
-        ∙ ap (λ q. cond (c.page == p) c.corrected 0 + (cond ((q == p) && w) 1 0 + k)) one
-        ∙ ap (λ n. cond (c.page == p) c.corrected 0 + n) (sym all)
+          let one : c.page ≡ m.page = sym (eqb-true m.page c.page is) in
+          ap (λ b. corrected_at p (both b)) is ∙ grouped_corrected p (with_mark m c) ms
+          ∙ counted_here (c.page == p) w c.corrected k
+          ∙ ap (λ q. cond (c.page == p) c.corrected 0 + (cond ((q == p) && w) 1 0 + k)) one
+          ∙ ap (λ n. cond (c.page == p) c.corrected 0 + n) (sym all)
       | inr isnt ↦
-        ap (λ b. corrected_at p (both b)) isnt
-        ∙ ap (λ n. cond (c.page == p) c.corrected 0 + n)
-        (grouped_corrected p (first_of m) ms ∙ counted_first (m.page == p) w k ∙ sym all)
+          ap (λ b. corrected_at p (both b)) isnt
+          ∙ ap (λ n. cond (c.page == p) c.corrected 0 + n)
+          (grouped_corrected p (first_of m) ms ∙ counted_first (m.page == p) w k ∙ sym all)
     ]
 
 grouped_uncorrected : (p : ℕ) (c : Page) (ms : List Mark)
@@ -74,15 +75,15 @@ grouped_uncorrected p c (m ∷ ms) =
     let both : Bool → List Page = λ b. cond b (grouped (with_mark m c) ms) (c ∷ grouped (first_of m) ms) in
     elim (cases_Bool (m.page == c.page)) [
       | inl is ↦
-        let one : c.page ≡ m.page = sym (eqb-true m.page c.page is) in
-        ap (λ b. uncorrected_at p (both b)) is ∙ grouped_uncorrected p (with_mark m c) ms
-        ∙ counted_here (c.page == p) w c.uncorrected k
-        ∙ ap (λ q. cond (c.page == p) c.uncorrected 0 + (cond ((q == p) && w) 1 0 + k)) one
-        ∙ ap (λ n. cond (c.page == p) c.uncorrected 0 + n) (sym all)
+          let one : c.page ≡ m.page = sym (eqb-true m.page c.page is) in
+          ap (λ b. uncorrected_at p (both b)) is ∙ grouped_uncorrected p (with_mark m c) ms
+          ∙ counted_here (c.page == p) w c.uncorrected k
+          ∙ ap (λ q. cond (c.page == p) c.uncorrected 0 + (cond ((q == p) && w) 1 0 + k)) one
+          ∙ ap (λ n. cond (c.page == p) c.uncorrected 0 + n) (sym all)
       | inr isnt ↦
-        ap (λ b. uncorrected_at p (both b)) isnt
-        ∙ ap (λ n. cond (c.page == p) c.uncorrected 0 + n)
-        (grouped_uncorrected p (first_of m) ms ∙ counted_first (m.page == p) w k ∙ sym all)
+          ap (λ b. uncorrected_at p (both b)) isnt
+          ∙ ap (λ n. cond (c.page == p) c.uncorrected 0 + n)
+          (grouped_uncorrected p (first_of m) ms ∙ counted_first (m.page == p) w k ∙ sym all)
     ]
 
 -- ---- Pages ----
@@ -98,12 +99,12 @@ grouped_has p c (m ∷ ms) =
     let both : Bool → List Page = λ b. cond b (grouped (with_mark m c) ms) (c ∷ grouped (first_of m) ms) in
     elim (cases_Bool (m.page == c.page)) [
       | inl is ↦
-        let one : c.page ≡ m.page = sym (eqb-true m.page c.page is) in
-        ap (λ b. has p (both b)) is ∙ grouped_has p (with_mark m c) ms
-        ∙ absorbed (c.page == p) (list_any (on p) ms)
-        ∙ ap (λ q. (c.page == p) || ((q == p) || list_any (on p) ms)) one
+          let one : c.page ≡ m.page = sym (eqb-true m.page c.page is) in
+          ap (λ b. has p (both b)) is ∙ grouped_has p (with_mark m c) ms
+          ∙ absorbed (c.page == p) (list_any (on p) ms)
+          ∙ ap (λ q. (c.page == p) || ((q == p) || list_any (on p) ms)) one
       | inr isnt ↦
-        ap (λ b. has p (both b)) isnt ∙ ap (λ b. (c.page == p) || b) (grouped_has p (first_of m) ms)
+          ap (λ b. has p (both b)) isnt ∙ ap (λ b. (c.page == p) || b) (grouped_has p (first_of m) ms)
     ]
 
 -- ---- Order ----
@@ -116,11 +117,11 @@ grouped_above q c (m ∷ ms) less h =
     let both : Bool → List Page = λ b. cond b (grouped (with_mark m c) ms) (c ∷ grouped (first_of m) ms) in
     elim (cases_Bool (m.page == c.page)) [
       | inl is ↦
-        let rest : RiseFrom c.page ms = subst (λ (n : ℕ). RiseFrom n ms) (eqb-true m.page c.page is) h.1 in
-        subst (λ (b : Bool). Above q (both b)) (sym is) (grouped_above q (with_mark m c) ms less rest)
+          let rest : RiseFrom c.page ms = subst (λ (n : ℕ). RiseFrom n ms) (eqb-true m.page c.page is) h.1 in
+          subst (λ (b : Bool). Above q (both b)) (sym is) (grouped_above q (with_mark m c) ms less rest)
       | inr isnt ↦
-        subst (λ (b : Bool). Above q (both b)) (sym isnt)
-        (less, grouped_above q (first_of m) ms (omega arith) h.1)
+          subst (λ (b : Bool). Above q (both b)) (sym isnt)
+          (less, grouped_above q (first_of m) ms (omega arith) h.1)
     ]
 
 grouped_rises : (c : Page) (ms : List Mark) → RiseFrom c.page ms → Rises (grouped c ms)
@@ -131,12 +132,12 @@ grouped_rises c (m ∷ ms) h =
     let both : Bool → List Page = λ b. cond b (grouped (with_mark m c) ms) (c ∷ grouped (first_of m) ms) in
     elim (cases_Bool (m.page == c.page)) [
       | inl is ↦
-        let rest : RiseFrom c.page ms = subst (λ (n : ℕ). RiseFrom n ms) (eqb-true m.page c.page is) h.1 in
-        subst (λ (b : Bool). Rises (both b)) (sym is) (grouped_rises (with_mark m c) ms rest)
+          let rest : RiseFrom c.page ms = subst (λ (n : ℕ). RiseFrom n ms) (eqb-true m.page c.page is) h.1 in
+          subst (λ (b : Bool). Rises (both b)) (sym is) (grouped_rises (with_mark m c) ms rest)
       | inr isnt ↦
-        let past : c.page < m.page = above le (eqb-false m.page c.page isnt) in
-        subst (λ (b : Bool). Rises (both b)) (sym isnt)
-        (grouped_above c.page (first_of m) ms past h.1, grouped_rises (first_of m) ms h.1)
+          let past : c.page < m.page = above le (eqb-false m.page c.page isnt) in
+          subst (λ (b : Bool). Rises (both b)) (sym isnt)
+          (grouped_above c.page (first_of m) ms past h.1, grouped_rises (first_of m) ms h.1)
     ]
   where
     above : {a b : ℕ} → a ≤ b → (b ≡ a → ⊥) → a < b
@@ -144,9 +145,10 @@ grouped_rises c (m ∷ ms) h =
 
 rise_from : (m : Mark) (ms : List Mark) → IsNonDecreasingBy (λ (x : Mark). x.page) (m ∷ ms) → RiseFrom m.page ms
 rise_from m [] h = tt
-rise_from m (n ∷ ms) h =
-    (h 0 1 m (omega arith) (omega arith),
-    rise_from n ms (λ i j d le less. h (suc i) (suc j) d (omega arith) (omega arith)))
+rise_from m (n ∷ ms) h = (
+  h 0 1 m (omega arith) (omega arith),
+  rise_from n ms (λ i j d le less. h (suc i) (suc j) d (omega arith) (omega arith)),
+)
 
 -- ---- All marks ----
 

@@ -3,3 +3,4 @@ pub mod Groups
 pub mod Stepping
 pub mod Listed
 pub mod Standing
+pub mod Laws

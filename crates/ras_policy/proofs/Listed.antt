@@ -1,7 +1,7 @@
 -- The pages of some copies with their numbers: they rise, and say of each page what the copies say.
 use Rattle.std.proofs.Common.{◌≡◌, ℕ, ◌+◌, ◌<◌, ◌≤◌, ◌==◌, ◌&&◌, ◌||◌, Bool, true, false, cond, List, [], ◌∷◌, map, nat_lt, refl, inl, inr, sym, ap, ◌∙◌, subst, arith}
 use Rattle.std.specs.List.{count_by, list_any}
-use Rattle.std.proofs.lemmas.Bool.{cases_Bool, eqb-true, eqb-false, eq-eqb, or_from}
+use Rattle.std.proofs.lemmas.Bool.{cases_Bool, eqb-true, or_from}
 use Rattle.std.proofs.lemmas.Bool.Decides.{nat_tests}
 use Rattle.std.proofs.lemmas.List.Sums.{sum_by-cons}
 use Rattle.reri_fields.specs.Block.{is_corrected, is_uncorrected}
@@ -54,15 +54,15 @@ among_with p a (q ∷ qs) =
     elim (cases_Bool (nat_lt a q)) [
       | inl less ↦ ap (λ b. among p (outer b)) less
       | inr isnt ↦
-        ap (λ b. among p (outer b)) isnt
-        ∙ elim (cases_Bool (q == a)) as (λ _. among p (inner (q == a)) ≡ ((a == p) || ((q == p) || among p qs))) [
-          | inl is ↦
-            ap (λ b. among p (inner b)) is ∙ absorbed (q == p) (among p qs)
-            ∙ ap (λ r. (r == p) || ((q == p) || among p qs)) (eqb-true q a is)
-          | inr other ↦
-            ap (λ b. among p (inner b)) other ∙ ap (λ b. (q == p) || b) (among_with p a qs)
-            ∙ swapped (q == p) (a == p) (among p qs)
-        ]
+          ap (λ b. among p (outer b)) isnt
+          ∙ elim (cases_Bool (q == a)) as (λ _. among p (inner (q == a)) ≡ ((a == p) || ((q == p) || among p qs))) [
+            | inl is ↦
+                ap (λ b. among p (inner b)) is ∙ absorbed (q == p) (among p qs)
+                ∙ ap (λ r. (r == p) || ((q == p) || among p qs)) (eqb-true q a is)
+            | inr other ↦
+                ap (λ b. among p (inner b)) other ∙ ap (λ b. (q == p) || b) (among_with p a qs)
+                ∙ swapped (q == p) (a == p) (among p qs)
+          ]
     ]
 
 above_with : (p a : ℕ) (qs : List ℕ) → p < a → AllAbove p qs → AllAbove p (with_page a qs)
@@ -72,9 +72,9 @@ above_with p a (q ∷ qs) less h =
     elim (nat_lt a q) as (λ b. AllAbove p (cond b (a ∷ q ∷ qs) (cond (q == a) (q ∷ qs) (q ∷ with_page a qs)))) [
       | true ↦ (less, h)
       | false ↦ elim (q == a) as (λ b. AllAbove p (cond b (q ∷ qs) (q ∷ with_page a qs))) [
-          | true ↦ h
-          | false ↦ (h.0, above_with p a qs less h.1)
-        ]
+        | true ↦ h
+        | false ↦ (h.0, above_with p a qs less h.1)
+      ]
     ]
 
 test_less : (a b : ℕ) → nat_lt a b ≡ true → a < b
@@ -91,15 +91,15 @@ climbs_with a (q ∷ qs) h =
     let outer : Bool → List ℕ = λ b. cond b (a ∷ q ∷ qs) (inner (q == a)) in
     elim (cases_Bool (nat_lt a q)) [
       | inl less ↦
-        let low : a < q = test_less a q less in
-        subst (λ (b : Bool). Climbs (outer b)) (sym less) ((low, higher a q qs (omega arith) h.0), h)
+          let low : a < q = test_less a q less in
+          subst (λ (b : Bool). Climbs (outer b)) (sym less) ((low, higher a q qs (omega arith) h.0), h)
       | inr isnt ↦
-        subst (λ (b : Bool). Climbs (outer b)) (sym isnt) (elim (cases_Bool (q == a)) as (λ _. Climbs (inner (q == a))) [
-          | inl is ↦ subst (λ (b : Bool). Climbs (inner b)) (sym is) h
-          | inr other ↦
-            subst (λ (b : Bool). Climbs (inner b)) (sym other)
-            (above_with q a qs (test_above a q isnt other) h.0, climbs_with a qs h.1)
-        ])
+          subst (λ (b : Bool). Climbs (outer b)) (sym isnt) (elim (cases_Bool (q == a)) as (λ _. Climbs (inner (q == a))) [
+            | inl is ↦ subst (λ (b : Bool). Climbs (inner b)) (sym is) h
+            | inr other ↦
+                subst (λ (b : Bool). Climbs (inner b)) (sym other)
+                (above_with q a qs (test_above a q isnt other) h.0, climbs_with a qs h.1)
+          ])
     ]
 
 -- ---- The pages of copies ----

@@ -1,6 +1,6 @@
 -- Pages that rise are settled by what they say of each page: two such lists that say the same are equal.
 use Rattle.std.proofs.Common.{◌≡◌, ℕ, ◌+◌, ◌<◌, ◌≤◌, ◌==◌, ◌||◌, Bool, true, false, cond, List, [], ◌∷◌, refl, inl, inr, sym, ap, ◌∙◌, subst, arith}
-use Rattle.std.proofs.lemmas.Bool.{cases_lt, cases_Bool, eq-eqb, eqb-true, or_from}
+use Rattle.std.proofs.lemmas.Bool.{cases_lt, eq-eqb, eqb-true, or_from}
 use Rattle.std.proofs.lemmas.Bool.Decides.{nat_tests}
 use Rattle.ras_policy.specs.declared.marks.Page.{Page}
 
@@ -80,10 +80,10 @@ least : (p : ℕ) (y : Page) (ys : List Page) → Above y.page ys → has p (y �
 least p y ys h is =
     elim (cases_lt p y.page) [
       | inl less ↦
-        let none : has p (y ∷ ys) ≡ false =
-        or_from (y.page == p) (has p ys) (differ y.page p less) (not_below y.page p ys (omega arith) h) in
-        let no : true ≡ false = sym is ∙ none in
-        absurd (cc)
+          let none : has p (y ∷ ys) ≡ false =
+          or_from (y.page == p) (has p ys) (differ y.page p less) (not_below y.page p ys (omega arith) h) in
+          let no : true ≡ false = sym is ∙ none in
+          absurd (cc)
       | inr le ↦ le
     ]
 
@@ -113,13 +113,13 @@ tails_agree : (x y : Page) (xs ys : List Page) → x ≡ y → Above x.page xs �
 tails_agree x y xs ys is h k e =
     record {
       corrected = λ p. cancelled (cond (x.page == p) x.corrected 0) (cond (y.page == p) y.corrected 0)
-      (corrected_at p xs) (corrected_at p ys) (ap (λ (z : Page). cond (z.page == p) z.corrected 0) is) (e.corrected p);
+          (corrected_at p xs) (corrected_at p ys) (ap (λ (z : Page). cond (z.page == p) z.corrected 0) is) (e.corrected p);
       uncorrected = λ p. cancelled (cond (x.page == p) x.uncorrected 0) (cond (y.page == p) y.uncorrected 0)
-      (uncorrected_at p xs) (uncorrected_at p ys) (ap (λ (z : Page). cond (z.page == p) z.uncorrected 0) is)
-      (e.uncorrected p);
+          (uncorrected_at p xs) (uncorrected_at p ys) (ap (λ (z : Page). cond (z.page == p) z.uncorrected 0) is)
+          (e.uncorrected p);
       pages = λ p. tail_has (x.page == p) (y.page == p) (has p xs) (has p ys) (ap (λ (z : Page). z.page == p) is)
-      (λ t. let here : x.page ≡ p = eqb-true x.page p t in
-      not_below x.page p xs (omega arith) h ∙ sym (not_below x.page p ys (omega arith) k)) (e.pages p);
+          (λ t. let here : x.page ≡ p = eqb-true x.page p t in
+          not_below x.page p xs (omega arith) h ∙ sym (not_below x.page p ys (omega arith) k)) (e.pages p);
     }
 
 above_at : (p q : ℕ) (xs : List Page) → p ≡ q → Above p xs → Above q xs

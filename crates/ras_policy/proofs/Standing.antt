@@ -1,18 +1,18 @@
 -- What a ledger stands for: it begins empty, each copy adds a mark, and its sorted marks are grouped into the pages of
 -- the copies.
-use Rattle.std.proofs.Common.{◌≡◌, ℕ, ◌+◌, ◌==◌, ◌&&◌, ◌||◌, Bool, true, false, cond, List, [], ◌∷◌, ◌++◌, map, length, is_ok, refl, sym, ap, ◌∙◌, arith}
+use Rattle.std.proofs.Common.{◌≡◌, ℕ, ◌+◌, ◌==◌, ◌&&◌, ◌||◌, Bool, true, false, cond, List, [], ◌∷◌, ◌++◌, length, refl, sym, ap, ◌∙◌}
 use Rattle.std.specs.List.{count_by, list_any, filter}
 use Rattle.std.specs.List.Sorted.{IsPermutation, IsNonDecreasingBy}
 use Rattle.std.proofs.lemmas.List.{length_push}
 use Rattle.std.proofs.lemmas.List.Sums.{sum_by_push}
 use Rattle.std.proofs.lemmas.List.Sorted.{sum_by-IsPermutation, list_any-IsPermutation}
-use Rattle.reri_fields.specs.Block.{is_corrected, is_uncorrected, has_worst, is_worst}
+use Rattle.reri_fields.specs.Block.{is_corrected, is_uncorrected, has_worst}
 use Rattle.board_plan.specs.declared.notes.Published.{Published}
 use Rattle.ras_policy.specs.declared.marks.Mark.{Mark}
 use Rattle.ras_policy.specs.declared.marks.Page.{Page}
 use Rattle.ras_policy.specs.Retired.{page_of, is_on, corrected_of, uncorrected_of, numbers_of, is_listed, pages_in, pages_of}
-use Rattle.ras_policy.specs.Grouped.{mark_of, marks_corrected, marks_uncorrected, all_grouped}
-use Rattle.ras_policy.specs.Books.{Books, StandsFor}
+use Rattle.ras_policy.specs.Grouped.{all_grouped}
+use Rattle.ras_policy.specs.Books.{mark_of, marks_corrected, marks_uncorrected, Books, StandsFor}
 use Rattle.ras_policy.proofs.Rising.{Agrees, same_list}
 use Rattle.ras_policy.proofs.Groups.{corrected_on, uncorrected_on, on, all_corrected, all_uncorrected, all_has, all_rises}
 use Rattle.ras_policy.proofs.Listed.{numbered, copies_corrected, copies_uncorrected, copies_have, copies_rise}
@@ -59,19 +59,19 @@ more_stands x xs old new e h =
     let m = mark_of x in
     record {
       corrected = λ p. ap (λ ms. count_by (corrected_on p) ms) e ∙ count_push (corrected_on p) old.marks m
-      ∙ ap (λ n. n + cond (corrected_on p m) 1 0) (h.corrected p)
-      ∙ ap (λ b. count_by (λ y. is_on p y && is_corrected y.copy) xs + cond ((page_of x == p) && b) 1 0)
-      (marked_corrected x)
-      ∙ sym (count_push (λ y. is_on p y && is_corrected y.copy) xs x);
+          ∙ ap (λ n. n + cond (corrected_on p m) 1 0) (h.corrected p)
+          ∙ ap (λ b. count_by (λ y. is_on p y && is_corrected y.copy) xs + cond ((page_of x == p) && b) 1 0)
+          (marked_corrected x)
+          ∙ sym (count_push (λ y. is_on p y && is_corrected y.copy) xs x);
       uncorrected = λ p. ap (λ ms. count_by (uncorrected_on p) ms) e ∙ count_push (uncorrected_on p) old.marks m
-      ∙ ap (λ n. n + cond (uncorrected_on p m) 1 0) (h.uncorrected p)
-      ∙ ap (λ b. count_by (λ y. is_on p y && is_uncorrected y.copy) xs + cond ((page_of x == p) && b) 1 0)
-      (marked_uncorrected x)
-      ∙ sym (count_push (λ y. is_on p y && is_uncorrected y.copy) xs x);
+          ∙ ap (λ n. n + cond (uncorrected_on p m) 1 0) (h.uncorrected p)
+          ∙ ap (λ b. count_by (λ y. is_on p y && is_uncorrected y.copy) xs + cond ((page_of x == p) && b) 1 0)
+          (marked_uncorrected x)
+          ∙ sym (count_push (λ y. is_on p y && is_uncorrected y.copy) xs x);
       pages = λ p. ap (λ ms. list_any (on p) ms) e ∙ any_push (on p) old.marks m
-      ∙ ap (λ b. b || (page_of x == p)) (h.pages p) ∙ sym (any_push (is_on p) xs x);
+          ∙ ap (λ b. b || (page_of x == p)) (h.pages p) ∙ sym (any_push (is_on p) xs x);
       number = ap (λ (ms : List Mark). length ms) e ∙ length_push old.marks m ∙ ap (λ n. n + 1) h.number
-      ∙ sym (length_push xs x);
+          ∙ sym (length_push xs x);
     }
 
 -- ---- Asking ----
@@ -93,13 +93,13 @@ groups_are xs books sorted h moved rises =
     let agrees : Agrees (all_grouped sorted) (numbered xs (pages_in xs)) =
     record {
       corrected = λ p. all_corrected p sorted
-      ∙ sum_by-IsPermutation (λ m. cond (corrected_on p m) 1 0) books.marks sorted moved ∙ h.corrected p
-      ∙ sym (copies_corrected p xs);
+          ∙ sum_by-IsPermutation (λ m. cond (corrected_on p m) 1 0) books.marks sorted moved ∙ h.corrected p
+          ∙ sym (copies_corrected p xs);
       uncorrected = λ p. all_uncorrected p sorted
-      ∙ sum_by-IsPermutation (λ m. cond (uncorrected_on p m) 1 0) books.marks sorted moved ∙ h.uncorrected p
-      ∙ sym (copies_uncorrected p xs);
+          ∙ sum_by-IsPermutation (λ m. cond (uncorrected_on p m) 1 0) books.marks sorted moved ∙ h.uncorrected p
+          ∙ sym (copies_uncorrected p xs);
       pages = λ p. all_has p sorted ∙ sym (list_any-IsPermutation (on p) books.marks sorted moved) ∙ h.pages p
-      ∙ sym (copies_have p xs);
+          ∙ sym (copies_have p xs);
     } in
     same_list (all_grouped sorted) (numbered xs (pages_in xs)) (all_rises sorted rises) (copies_rise xs) agrees
 

@@ -1,5 +1,5 @@
 -- How one mark more is grouped.
-use Rattle.std.proofs.Common.{◌≡◌, ◌≤◌, ℕ, ◌==◌, Bool, true, false, cond, List, [], ◌∷◌, ◌++◌, length, drop, sym, ap, ◌∙◌}
+use Rattle.std.proofs.Common.{◌≡◌, ◌≤◌, ℕ, ◌==◌, true, false, cond, List, [], ◌∷◌, ◌++◌, length, drop, sym, ap, ◌∙◌}
 use Rattle.std.proofs.lemmas.List.{append_assoc, drop_all}
 use Rattle.ras_policy.specs.declared.marks.Mark.{Mark}
 use Rattle.ras_policy.specs.declared.marks.Page.{Page}

@@ -1,25 +1,11 @@
 -- How marks that rise by page are grouped into pages (describes code).
-use Rattle.std.specs.Prelude.{ℕ, ◌+◌, ◌==◌, ◌||◌, Bool, if◌then◌else◌, List, [], ◌∷◌}
-use Rattle.reri_fields.specs.declared.severity.Severity.TheVariants.{Ce, Ued, Uec}
-use Rattle.reri_fields.specs.Fields.{status_fields, greatest}
-use Rattle.reri_fields.specs.Block.{is_worst}
-use Rattle.board_plan.specs.declared.notes.Published.{Published}
+use Rattle.std.specs.Prelude.{ℕ, ◌+◌, ◌==◌, Bool, if◌then◌else◌, List, [], ◌∷◌}
 use Rattle.ras_policy.specs.declared.marks.Mark.{Mark}
 use Rattle.ras_policy.specs.declared.marks.Page.{Page}
-use Rattle.ras_policy.specs.Retired.{page_of}
+use Rattle.ras_policy.specs.Books.{marks_corrected, marks_uncorrected}
 
 abbrev pub one_if : Bool → ℕ
 one_if b = if b then 1 else 0
-
--- the mark of a copy: its page, and its greatest severity
-abbrev pub mark_of : Published → Mark
-mark_of x = record { page = page_of x; severity = greatest (status_fields x.copy.status) }
-
-unfoldable pub marks_corrected : Mark → Bool
-marks_corrected m = is_worst Ce m.severity
-
-unfoldable pub marks_uncorrected : Mark → Bool
-marks_uncorrected m = is_worst Ued m.severity || is_worst Uec m.severity
 
 -- a page with one mark more
 abbrev pub with_mark : Mark → Page → Page

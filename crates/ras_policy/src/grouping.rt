@@ -5,7 +5,8 @@ ghost use Rattle.std.specs.List.{filter, list_any};
 ghost use Rattle.std.specs.List.Sorted.{IsPermutation, IsNonDecreasingBy};
 ghost use Rattle.ras_policy.specs.declared.marks.Mark.{Mark};
 ghost use Rattle.ras_policy.specs.Retired.{is_listed};
-ghost use Rattle.ras_policy.specs.Grouped.{grouped, all_grouped, marks_corrected, marks_uncorrected};
+ghost use Rattle.ras_policy.specs.Grouped.{grouped, all_grouped};
+ghost use Rattle.ras_policy.specs.Books.{marks_corrected, marks_uncorrected};
 
 use crate::marks::{Mark, Page, first_of, is_listed, with_mark};
 use ras_io::NoMemory;

@@ -4,8 +4,7 @@ ghost use Rattle.std.specs.Prelude.{◌≡◌, ℕ, ◌<◌, ◌≤◌, ◌^◌,
 ghost use Rattle.std.specs.List.{list_any};
 ghost use Rattle.board_plan.specs.declared.notes.Published.{Published};
 ghost use Rattle.ras_policy.specs.Retired.{is_on, numbers_of, pages_of};
-ghost use Rattle.ras_policy.specs.Grouped.{mark_of};
-ghost use Rattle.ras_policy.specs.Books.{StandsFor};
+ghost use Rattle.ras_policy.specs.Books.{mark_of, StandsFor};
 
 use crate::grouping::{all_grouped, any_on, by_page, count_on, keep_listed};
 use crate::marks::{Mark, Page, mark_of};

@@ -2,7 +2,8 @@
 
 ghost use Rattle.std.specs.Prelude.{◌≡◌, ◌<◌, ◌^◌, ◌+◌};
 ghost use Rattle.ras_policy.specs.Retired.{is_listed};
-ghost use Rattle.ras_policy.specs.Grouped.{mark_of, marks_corrected, marks_uncorrected, with_mark, first_of};
+ghost use Rattle.ras_policy.specs.Grouped.{with_mark, first_of};
+ghost use Rattle.ras_policy.specs.Books.{mark_of, marks_corrected, marks_uncorrected};
 
 use board_plan::Published;
 use reri_fields::{Severity, Status};
@@ -39,7 +40,7 @@ pub(crate) fn mark_of(published: &Published) -> Mark
 }
 
 /// Counts a mark to its page.
-#[tactic(auto, unfolding(crate::specs::Grouped::marks_corrected, crate::specs::Grouped::marks_uncorrected, reri_fields::specs::Block::is_worst))]
+#[tactic(auto, unfolding(crate::specs::Books::marks_corrected, crate::specs::Books::marks_uncorrected, reri_fields::specs::Block::is_worst))]
 pub(crate) fn with_mark(page: Page, mark: &Mark) -> Page
     requires corrected { page.corrected + 1 < 2 ^ 32 }
     requires uncorrected { page.uncorrected + 1 < 2 ^ 32 }

@@ -1,6 +1,6 @@
 use Rattle.std.proofs.Common.{◌≡◌, ◌≤◌, ◌==◌, ◌&&◌, take}
 use Rattle.std.specs.List.{count_by}
-use Rattle.ras_policy.specs.Grouped.{marks_corrected, marks_uncorrected}
+use Rattle.ras_policy.specs.Books.{marks_corrected, marks_uncorrected}
 use Rattle.ras_policy.proofs.grouping.count_on.Given as goal
 
 abbrev pub invariant-loop-mark : goal.invariant-loop-mark

@@ -1,5 +1,5 @@
 use Rattle.std.proofs.Common.{rules, ◌≡◌, [], ◌∷◌, ◌++◌}
-use Rattle.ras_policy.specs.Grouped.{mark_of}
+use Rattle.ras_policy.specs.Books.{mark_of}
 use Rattle.ras_policy.proofs.Standing.{more_stands}
 use Rattle.ras_policy.proofs.ledger.Ledger.add.Goals as goal
 
