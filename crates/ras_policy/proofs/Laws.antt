@@ -1,11 +1,15 @@
 -- What the definition of the list says, page by page: it rises, it has a page exactly where some copy struck it and the
 -- page's numbers make it one to retire, and it then has those numbers.
-use Rattle.std.proofs.Common.{◌≡◌, ℕ, ◌==◌, ◌&&◌, ◌||◌, Bool, true, false, cond, List, [], ◌∷◌, refl, ap, ◌∙◌}
+use Rattle.std.proofs.Common.{◌≡◌, ℕ, ◌==◌, ◌&&◌, ◌||◌, Bool, true, false, cond, List, [], ◌∷◌, refl, sym, ap, ◌∙◌}
 use Rattle.std.specs.List.{list_any, filter}
+use Rattle.std.specs.List.Sorted.{IsPermutation}
 use Rattle.std.proofs.lemmas.Bool.{eqb-true}
+use Rattle.std.proofs.lemmas.List.Sorted.{sum_by-IsPermutation, list_any-IsPermutation, length_permutation}
+use Rattle.reri_fields.specs.Block.{is_corrected, is_uncorrected}
 use Rattle.board_plan.specs.declared.notes.Published.{Published}
 use Rattle.ras_policy.specs.declared.marks.Page.{Page}
-use Rattle.ras_policy.specs.Retired.{is_on, numbers_of, is_listed, pages_in, pages_of}
+use Rattle.ras_policy.specs.Books.{Books, StandsFor}
+use Rattle.ras_policy.specs.Retired.{corrected_of, uncorrected_of, is_on, numbers_of, is_listed, pages_in, pages_of}
 use Rattle.ras_policy.proofs.Rising.{has, Above, Rises}
 use Rattle.ras_policy.proofs.Listed.{among, numbered, pages_are, copies_rise}
 
@@ -85,3 +89,16 @@ kept_numbered t copies (p ∷ ps) =
 pub list_numbered : (threshold : ℕ) (copies : List Published) → AreNumbered copies (pages_of threshold copies)
 unfolding pages_of
 list_numbered threshold copies = kept_numbered (is_listed threshold) copies (pages_in copies)
+
+-- a ledger that stands for some copies stands for them in any other order too
+pub any_order : (xs ys : List Published) (books : Books) → IsPermutation xs ys → StandsFor xs books → StandsFor ys books
+unfolding corrected_of uncorrected_of
+any_order xs ys books moved h =
+    record {
+      corrected = λ p. h.corrected p
+          ∙ sym (sum_by-IsPermutation (λ x. cond (is_on p x && is_corrected x.copy) 1 0) xs ys moved);
+      uncorrected = λ p. h.uncorrected p
+          ∙ sym (sum_by-IsPermutation (λ x. cond (is_on p x && is_uncorrected x.copy) 1 0) xs ys moved);
+      pages = λ p. h.pages p ∙ list_any-IsPermutation (is_on p) xs ys moved;
+      number = h.number ∙ sym (length_permutation xs ys moved);
+    }

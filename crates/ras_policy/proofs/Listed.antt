@@ -94,12 +94,14 @@ climbs_with a (q ∷ qs) h =
           let low : a < q = test_less a q less in
           subst (λ (b : Bool). Climbs (outer b)) (sym less) ((low, higher a q qs (omega arith) h.0), h)
       | inr isnt ↦
-          subst (λ (b : Bool). Climbs (outer b)) (sym isnt) (elim (cases_Bool (q == a)) as (λ _. Climbs (inner (q == a))) [
+          let within : Climbs (inner (q == a)) =
+          elim (cases_Bool (q == a)) as (λ _. Climbs (inner (q == a))) [
             | inl is ↦ subst (λ (b : Bool). Climbs (inner b)) (sym is) h
             | inr other ↦
                 subst (λ (b : Bool). Climbs (inner b)) (sym other)
                 (above_with q a qs (test_above a q isnt other) h.0, climbs_with a qs h.1)
-          ])
+          ] in
+          subst (λ (b : Bool). Climbs (outer b)) (sym isnt) within
     ]
 
 -- ---- The pages of copies ----

@@ -113,7 +113,8 @@ tails_agree : (x y : Page) (xs ys : List Page) → x ≡ y → Above x.page xs �
 tails_agree x y xs ys is h k e =
     record {
       corrected = λ p. cancelled (cond (x.page == p) x.corrected 0) (cond (y.page == p) y.corrected 0)
-          (corrected_at p xs) (corrected_at p ys) (ap (λ (z : Page). cond (z.page == p) z.corrected 0) is) (e.corrected p);
+          (corrected_at p xs) (corrected_at p ys) (ap (λ (z : Page). cond (z.page == p) z.corrected 0) is)
+          (e.corrected p);
       uncorrected = λ p. cancelled (cond (x.page == p) x.uncorrected 0) (cond (y.page == p) y.uncorrected 0)
           (uncorrected_at p xs) (uncorrected_at p ys) (ap (λ (z : Page). cond (z.page == p) z.uncorrected 0) is)
           (e.uncorrected p);
@@ -125,7 +126,8 @@ tails_agree x y xs ys is h k e =
 above_at : (p q : ℕ) (xs : List Page) → p ≡ q → Above p xs → Above q xs
 above_at p q xs e h = subst (λ (n : ℕ). Above n xs) e h
 
-heads_agree : (x y : Page) (xs ys : List Page) → Above x.page xs → Above y.page ys → Agrees (x ∷ xs) (y ∷ ys) → x ≡ y
+heads_agree : (x y : Page) (xs ys : List Page) → Above x.page xs → Above y.page ys → Agrees (x ∷ xs) (y ∷ ys)
+    → x ≡ y
 heads_agree x y xs ys h k e =
     let low : y.page ≤ x.page = least x.page y ys k (sym (e.pages x.page) ∙ itself x xs) in
     let high : x.page ≤ y.page = least y.page x xs h (e.pages y.page ∙ itself y ys) in

@@ -30,17 +30,20 @@ none_stands books e =
     }
 
 marked_corrected : (x : Published) → marks_corrected (mark_of x) ≡ is_corrected x.copy
-unfolding marks_corrected is_corrected has_worst
+unfolding is_corrected has_worst
 marked_corrected x = refl
 
 marked_uncorrected : (x : Published) → marks_uncorrected (mark_of x) ≡ is_uncorrected x.copy
-unfolding marks_uncorrected is_uncorrected has_worst
+unfolding is_uncorrected has_worst
 marked_uncorrected x = refl
 
 any_push : {X : Type 0} (t : X → Bool) (xs : List X) (y : X) → list_any t (xs ++ y ∷ []) ≡ (list_any t xs || t y)
 any_push t [] y =
-    let either : (b : Bool) → (b || false) ≡ b = λ b. elim b as (λ c. (c || false) ≡ c) [ true ↦ refl | false ↦ refl ] in
-    either (t y)
+    or_none (t y)
+  where
+    or_none : (b : Bool) → (b || false) ≡ b
+    or_none true = refl
+    or_none false = refl
 any_push t (x ∷ xs) y =
     ap (λ b. t x || b) (any_push t xs y) ∙ grouped_or (t x) (list_any t xs) (t y)
   where

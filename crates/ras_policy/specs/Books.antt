@@ -1,4 +1,5 @@
--- What a ledger is: its room, a mark for each copy that was added, and the copies that it stands for. This project's own.
+-- What a ledger is: its room, a mark for each copy that was added, and the copies that it stands for. This project's
+-- own.
 use Rattle.std.specs.Prelude.{◌≡◌, ℕ, ◌==◌, ◌&&◌, ◌||◌, Bool, List, length, count_by}
 use Rattle.std.specs.List.{list_any}
 use Rattle.reri_fields.specs.declared.severity.Severity.TheVariants.{Ce, Ued, Uec}
@@ -13,10 +14,10 @@ abbrev pub mark_of : Published → Mark
 mark_of x = record { page = page_of x; severity = greatest (status_fields x.copy.status) }
 
 -- whether the greatest severity of the mark's copy is CE, and whether it is UED or UEC
-unfoldable pub marks_corrected : Mark → Bool
+abbrev pub marks_corrected : Mark → Bool
 marks_corrected m = is_worst Ce m.severity
 
-unfoldable pub marks_uncorrected : Mark → Bool
+abbrev pub marks_uncorrected : Mark → Bool
 marks_uncorrected m = is_worst Ued m.severity || is_worst Uec m.severity
 
 -- the room for copies, and the marks of those that were added

@@ -40,7 +40,7 @@ pub(crate) fn mark_of(published: &Published) -> Mark
 }
 
 /// Counts a mark to its page.
-#[tactic(auto, unfolding(crate::specs::Books::marks_corrected, crate::specs::Books::marks_uncorrected, reri_fields::specs::Block::is_worst))]
+#[tactic(auto, unfolding(reri_fields::specs::Block::is_worst))]
 pub(crate) fn with_mark(page: Page, mark: &Mark) -> Page
     requires corrected { page.corrected + 1 < 2 ^ 32 }
     requires uncorrected { page.uncorrected + 1 < 2 ^ 32 }
