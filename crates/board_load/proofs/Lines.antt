@@ -1,0 +1,55 @@
+-- Texts of lines, one after another.
+use Rattle.std.proofs.Common.{◌≡◌, List, [], ◌∷◌, ◌++◌, ◌+◌, ◌*◌, ◌/◌, ◌^◌, ℕ, suc, arith, refl, sym, ap, ◌∙◌}
+use mathlib.Core.List.{append_assoc, append-nil}
+use Rattle.board_load.specs.Load.{line_text, lines_text, lines_below, error_line, act_lines, next_state, state_after, drawn}
+
+-- the text of two parts
+pub lines_append : (a b : List (List (List ℕ))) → lines_text (a ++ b) ≡ lines_text a ++ lines_text b
+unfolding lines_text
+lines_append [] b = refl
+lines_append (line ∷ a) b = ap (λ t. line_text line ++ t) (lines_append a b) ∙ sym (append_assoc (line_text line) (lines_text a) (lines_text b))
+
+-- a text and its further lines
+pub ruleset joining = (append_assoc, lines_append)
+
+-- no lines
+pub none_below : (f : ℕ → List (List (List ℕ))) → lines_text (lines_below f 0) ≡ []
+unfolding lines_below lines_text
+none_below f = refl
+
+-- one number more
+pub one_more_below : (f : ℕ → List (List (List ℕ))) (k : ℕ) →
+    lines_text (lines_below f (k + 1)) ≡ lines_text (lines_below f k) ++ lines_text (f k)
+unfolding lines_below
+one_more_below f k =
+    let e : k + 1 ≡ suc k = omega arith in
+    ap (λ m. lines_text (lines_below f m)) e ∙ lines_append (lines_below f k) (f k)
+
+-- the text of an act, from the generator's state
+pub act_drawn : (n reporter i x : ℕ) → x ≡ state_after n (500 * reporter + i) →
+    lines_text (error_line reporter i (next_state x / 2 ^ 32) ∷ []) ≡ lines_text (act_lines n reporter i)
+unfolding act_lines drawn state_after
+act_drawn n reporter i x e = ap (λ y. lines_text (error_line reporter i (next_state y / 2 ^ 32) ∷ [])) e
+
+-- the generator's state after one more act
+pub state_next : (n reporter i x : ℕ) → x ≡ state_after n (500 * reporter + i) →
+    next_state x ≡ state_after n (500 * reporter + (i + 1))
+unfolding state_after
+state_next n reporter i x e =
+    let next : 500 * reporter + (i + 1) ≡ suc (500 * reporter + i) = omega arith in
+    ap (λ y. next_state y) e ∙ sym (ap (λ k. state_after n k) next)
+
+-- a text before the first number
+pub text_none : (f : ℕ → List (List (List ℕ))) (text : List ℕ) → text ≡ text ++ lines_text (lines_below f 0)
+unfolding lines_below lines_text
+text_none f text = sym (append-nil text)
+
+-- a text after one number more
+pub text_more : (f : ℕ → List (List (List ℕ))) (k : ℕ) (before text new : List ℕ) →
+    text ≡ before ++ lines_text (lines_below f k) → new ≡ text ++ lines_text (f k) →
+    new ≡ before ++ lines_text (lines_below f (k + 1))
+text_more f k before text new e more =
+    more
+    ∙ ap (λ t. t ++ lines_text (f k)) e
+    ∙ append_assoc before (lines_text (lines_below f k)) (lines_text (f k))
+    ∙ ap (λ t. before ++ t) (sym (one_more_below f k))
