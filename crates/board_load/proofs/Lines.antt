@@ -9,8 +9,16 @@ unfolding lines_text
 lines_append [] b = refl
 lines_append (line ∷ a) b = ap (λ t. line_text line ++ t) (lines_append a b) ∙ sym (append_assoc (line_text line) (lines_text a) (lines_text b))
 
+-- the text of no lines
+pub no_lines : lines_text [] ≡ []
+unfolding lines_text
+no_lines = refl
+
 -- a text and its further lines
-pub ruleset joining = (append_assoc, lines_append)
+pub ruleset joining = (append_assoc, append-nil, lines_append, no_lines)
+
+-- a line and its parts
+pub ruleset parts = (append_assoc, append-nil)
 
 -- no lines
 pub none_below : (f : ℕ → List (List (List ℕ))) → lines_text (lines_below f 0) ≡ []

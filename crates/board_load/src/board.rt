@@ -44,10 +44,10 @@ fn control_word(sum: u64) -> &'static str
     if sum % 2 == 1 { "0x97" } else { "0x95" }
 }
 
-#[tactic(auto, using(crate::proofs::Lines::joining), unfolding(crate::specs::Load::lines_text, crate::specs::Load::line_text, crate::specs::Load::record_lines))]
+#[tactic(auto, using(crate::proofs::Lines::parts), unfolding(crate::specs::Load::lines_text, crate::specs::Load::line_text, crate::specs::Load::record_lines))]
 fn write_record(text: &mut String, n: u16, bank: u64, rec: u64) -> Result<(), AllocError>
-    requires { bank < 3 }
-    requires { rec < 4 }
+    requires bank { bank < 3 }
+    requires rec { rec < 4 }
     ensures { OnOk result (string_bytes text.new ≡ string_bytes text.old ++ lines_text (record_lines n bank rec)) }
 {
     let control = control_word(bank + rec + u64::from(n));

@@ -58,7 +58,7 @@ fn severity_word(drawn: u64) -> &'static str
 }
 
 /// The act of a number of a reporter, from what was drawn for it.
-#[tactic(auto, using(crate::proofs::Lines::joining), unfolding(crate::specs::Load::lines_text, crate::specs::Load::line_text, crate::specs::Load::error_line))]
+#[tactic(auto, using(crate::proofs::Lines::parts), unfolding(crate::specs::Load::lines_text, crate::specs::Load::line_text, crate::specs::Load::error_line))]
 fn write_error(text: &mut String, reporter: u64, i: u64, drawn: u64) -> Result<(), AllocError>
     ensures { OnOk result (string_bytes text.new
         ≡ string_bytes text.old ++ lines_text (error_line reporter i drawn ∷ [])) }

@@ -67,7 +67,7 @@ fn loop_of(hart: u64) -> u64
 }
 
 /// Registers an event with its handler, and enables it.
-#[tactic(auto, using(crate::proofs::Lines::joining), unfolding(crate::specs::Load::lines_text, crate::specs::Load::line_text, crate::specs::Load::register_lines))]
+#[tactic(auto, using(crate::proofs::Lines::parts), unfolding(crate::specs::Load::lines_text, crate::specs::Load::line_text, crate::specs::Load::register_lines))]
 fn write_registration(text: &mut String, id: &str, entry: u64) -> Result<(), AllocError>
     ensures { OnOk result (string_bytes text.new ≡ string_bytes text.old ++ lines_text (register_lines id.now entry)) }
 {
@@ -100,7 +100,7 @@ fn write_events(text: &mut String, hart: u64) -> Result<(), AllocError>
 }
 
 /// The loop: the event is raised on the next hart, 200 times.
-#[tactic(auto, using(crate::proofs::Lines::joining), unfolding(crate::specs::Load::lines_text, crate::specs::Load::line_text, crate::specs::Load::loop_lines))]
+#[tactic(auto, using(crate::proofs::Lines::parts), unfolding(crate::specs::Load::lines_text, crate::specs::Load::line_text, crate::specs::Load::loop_lines))]
 fn write_loop(text: &mut String, hart: u64) -> Result<(), AllocError>
     requires { hart < 4 }
     ensures { OnOk result (string_bytes text.new ≡ string_bytes text.old ++ lines_text (loop_lines hart)) }
@@ -113,7 +113,7 @@ fn write_loop(text: &mut String, hart: u64) -> Result<(), AllocError>
 }
 
 /// The handler of the events that banks signal: it counts, and takes the block of each bank.
-#[tactic(auto, using(crate::proofs::Lines::joining), unfolding(crate::specs::Load::lines_text, crate::specs::Load::line_text, crate::specs::Load::bank_handler_lines))]
+#[tactic(auto, using(crate::proofs::Lines::parts), unfolding(crate::specs::Load::lines_text, crate::specs::Load::line_text, crate::specs::Load::bank_handler_lines))]
 fn write_bank_handler(text: &mut String, hart: u64) -> Result<(), AllocError>
     requires { hart < 4 }
     ensures { OnOk result (string_bytes text.new ≡ string_bytes text.old ++ lines_text (bank_handler_lines hart)) }
@@ -124,7 +124,7 @@ fn write_bank_handler(text: &mut String, hart: u64) -> Result<(), AllocError>
 }
 
 /// The handler of the event that harts raise, which counts; and the hart's start.
-#[tactic(auto, using(crate::proofs::Lines::joining), unfolding(crate::specs::Load::lines_text, crate::specs::Load::line_text, crate::specs::Load::raise_handler_lines))]
+#[tactic(auto, using(crate::proofs::Lines::parts), unfolding(crate::specs::Load::lines_text, crate::specs::Load::line_text, crate::specs::Load::raise_handler_lines))]
 fn write_raise_handler(text: &mut String, hart: u64) -> Result<(), AllocError>
     requires { hart < 4 }
     ensures { OnOk result (string_bytes text.new ≡ string_bytes text.old ++ lines_text (raise_handler_lines hart)) }
@@ -135,7 +135,7 @@ fn write_raise_handler(text: &mut String, hart: u64) -> Result<(), AllocError>
     writeln!(text, "at {handler}\nop inc {count}\nop sbi 0x535345 6\nstart {hart} {start} 10000")
 }
 
-#[tactic(auto, using(crate::proofs::Lines::joining), unfolding(crate::specs::Load::lines_text, crate::specs::Load::line_text, crate::specs::Load::at_lines))]
+#[tactic(auto, using(crate::proofs::Lines::parts), unfolding(crate::specs::Load::lines_text, crate::specs::Load::line_text, crate::specs::Load::at_lines))]
 fn write_at(text: &mut String, address: u64) -> Result<(), AllocError>
     ensures { OnOk result (string_bytes text.new ≡ string_bytes text.old ++ lines_text (at_lines address)) }
 {

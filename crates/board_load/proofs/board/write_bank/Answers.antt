@@ -14,6 +14,6 @@ loop-rec-preserved c =
 pub returns : goal.returns
 unfolding bank_lines
 returns c =
-    let last : c.loop-rec.rec ≡ 4 = omega (arith, c.loop-rec-test.false, c.loop-rec.auto.i-end) in
+    let last : c.loop-rec.rec ≡ 4 = omega (arith, c.loop-rec-test.false, c.loop-rec.auto.rec-end) in
     c.loop-rec.invariant
     ∙ ap (λ i. string_bytes c.args.text.now ++ lines_text (lines_below (record_lines c.args.n c.args.bank) i)) last
