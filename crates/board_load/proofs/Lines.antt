@@ -14,8 +14,14 @@ pub no_lines : lines_text [] ≡ []
 unfolding lines_text
 no_lines = refl
 
+-- the text of a line and its further lines
+pub first_line : (line : List (List ℕ)) (lines : List (List (List ℕ))) →
+    lines_text (line ∷ lines) ≡ line_text line ++ lines_text lines
+unfolding lines_text
+first_line line lines = refl
+
 -- a text and its further lines
-pub ruleset joining = (append_assoc, append-nil, lines_append, no_lines)
+pub ruleset joining = (append_assoc, append-nil, lines_append, first_line, no_lines)
 
 -- a line and its parts
 pub ruleset parts = (append_assoc, append-nil)

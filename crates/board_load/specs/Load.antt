@@ -74,12 +74,44 @@ raise_count hart = turns_word hart + 256
 abbrev pub loop_of : ℕ → ℕ
 loop_of hart = start_of hart + (if hart == 0 then 44 else 28)
 
+unfoldable pub at_line : ℕ → List (List ℕ)
+at_line address = codes "at" ∷ decimal address ∷ []
+
+-- a call of the firmware with no argument
+abbrev pub call_line : List ℕ → List (List ℕ)
+call_line function = codes "op" ∷ codes "sbi" ∷ codes "0x535345" ∷ function ∷ []
+
+unfoldable pub register_line : List ℕ → ℕ → List (List ℕ)
+register_line id entry =
+    codes "op" ∷ codes "sbi" ∷ codes "0x535345" ∷ codes "2" ∷ id ∷ decimal entry ∷ codes "0" ∷ []
+
+unfoldable pub enable_line : List ℕ → List (List ℕ)
+enable_line id = codes "op" ∷ codes "sbi" ∷ codes "0x535345" ∷ codes "4" ∷ id ∷ []
+
+unfoldable pub unmask_line : List (List ℕ)
+unmask_line = call_line (codes "8")
+
+unfoldable pub complete_line : List (List ℕ)
+complete_line = call_line (codes "6")
+
+unfoldable pub inc_line : ℕ → List (List ℕ)
+inc_line word = codes "op" ∷ codes "inc" ∷ decimal word ∷ []
+
+-- the event is raised on the next hart
+unfoldable pub inject_line : ℕ → List (List ℕ)
+inject_line hart =
+    codes "op" ∷ codes "sbi" ∷ codes "0x535345" ∷ codes "7" ∷ codes "0xffff0000" ∷ decimal ((hart + 1) % 4) ∷ []
+
+-- back to where the loop begins, before its turn 200
+unfoldable pub again_line : ℕ → List (List ℕ)
+again_line hart = codes "op" ∷ codes "jlt" ∷ decimal (turns_word hart) ∷ codes "200" ∷ decimal (loop_of hart) ∷ []
+
+unfoldable pub start_line : ℕ → List (List ℕ)
+start_line hart = codes "start" ∷ decimal hart ∷ decimal (start_of hart) ∷ codes "10000" ∷ []
+
 -- an event is registered with its handler, and enabled
 unfoldable pub register_lines : List ℕ → ℕ → List (List (List ℕ))
-register_lines id entry =
-    (codes "op" ∷ codes "sbi" ∷ codes "0x535345" ∷ codes "2" ∷ id ∷ decimal entry ∷ codes "0" ∷ [])
-    ∷ (codes "op" ∷ codes "sbi" ∷ codes "0x535345" ∷ codes "4" ∷ id ∷ [])
-    ∷ []
+register_lines id entry = register_line id entry ∷ enable_line id ∷ []
 
 -- the global events are hart 0's
 unfoldable pub global_lines : ℕ → List (List (List ℕ))
@@ -94,42 +126,30 @@ event_lines hart =
     ++ (register_lines (codes "0x100000") (bank_handler hart)
     ++ (register_lines (codes "0xffff0000") (raise_handler hart) ++ global_lines hart))
 
--- the hart is unmasked, and raises the event on the next hart in 200 turns
+-- the hart is unmasked, and raises the event in each turn of its loop, which begins at the second line
 unfoldable pub loop_lines : ℕ → List (List (List ℕ))
-loop_lines hart =
-    (codes "op" ∷ codes "sbi" ∷ codes "0x535345" ∷ codes "8" ∷ [])
-    ∷ (codes "op" ∷ codes "inc" ∷ decimal (turns_word hart) ∷ [])
-    ∷ (codes "op" ∷ codes "sbi" ∷ codes "0x535345" ∷ codes "7" ∷ codes "0xffff0000" ∷ decimal ((hart + 1) % 4) ∷ [])
-    ∷ (codes "op" ∷ codes "jlt" ∷ decimal (turns_word hart) ∷ codes "200" ∷ decimal (loop_of hart) ∷ [])
-    ∷ []
+loop_lines hart = unmask_line ∷ inc_line (turns_word hart) ∷ inject_line hart ∷ again_line hart ∷ []
 
-unfoldable pub at_lines : ℕ → List (List (List ℕ))
-at_lines address = (codes "at" ∷ decimal address ∷ []) ∷ []
-
--- the handler counts, takes the block of each bank, and is complete
-unfoldable pub bank_handler_lines : ℕ → List (List (List ℕ))
-bank_handler_lines hart =
-    (codes "at" ∷ decimal (bank_handler hart) ∷ [])
-    ∷ (codes "op" ∷ codes "inc" ∷ decimal (bank_count hart) ∷ [])
-    ∷ (codes "op" ∷ codes "ack" ∷ codes "0" ∷ [])
+-- the block of each bank is taken
+unfoldable pub ack_lines : List (List (List ℕ))
+ack_lines =
+    (codes "op" ∷ codes "ack" ∷ codes "0" ∷ [])
     ∷ (codes "op" ∷ codes "ack" ∷ codes "1" ∷ [])
     ∷ (codes "op" ∷ codes "ack" ∷ codes "2" ∷ [])
-    ∷ (codes "op" ∷ codes "sbi" ∷ codes "0x535345" ∷ codes "6" ∷ [])
     ∷ []
 
--- the handler counts, and is complete; and the hart's start
+unfoldable pub bank_handler_lines : ℕ → List (List (List ℕ))
+bank_handler_lines hart =
+    at_line (bank_handler hart) ∷ inc_line (bank_count hart) ∷ ack_lines ++ complete_line ∷ []
+
 unfoldable pub raise_handler_lines : ℕ → List (List (List ℕ))
-raise_handler_lines hart =
-    (codes "at" ∷ decimal (raise_handler hart) ∷ [])
-    ∷ (codes "op" ∷ codes "inc" ∷ decimal (raise_count hart) ∷ [])
-    ∷ (codes "op" ∷ codes "sbi" ∷ codes "0x535345" ∷ codes "6" ∷ [])
-    ∷ (codes "start" ∷ decimal hart ∷ decimal (start_of hart) ∷ codes "10000" ∷ [])
-    ∷ []
+raise_handler_lines hart = at_line (raise_handler hart) ∷ inc_line (raise_count hart) ∷ complete_line ∷ []
 
 unfoldable pub hart_lines : ℕ → List (List (List ℕ))
 hart_lines hart =
-    at_lines (start_of hart)
-    ++ (event_lines hart ++ (loop_lines hart ++ (bank_handler_lines hart ++ raise_handler_lines hart)))
+    at_line (start_of hart)
+    ∷ event_lines hart ++ (loop_lines hart
+    ++ (bank_handler_lines hart ++ (raise_handler_lines hart ++ start_line hart ∷ [])))
 
 -- ---- The errors ----
 

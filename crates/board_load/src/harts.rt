@@ -2,6 +2,7 @@
 
 ghost use Rattle.std.specs.Prelude.{◌≡◌, ◌<◌, ◌≤◌, ◌+◌, ◌++◌, OnOk, string_bytes};
 ghost use Rattle.board_load.specs.Load.{
+  line_text,
   lines_text,
   lines_below,
   start_of,
@@ -9,7 +10,16 @@ ghost use Rattle.board_load.specs.Load.{
   raise_handler,
   turns_word,
   loop_of,
-  at_lines,
+  at_line,
+  inc_line,
+  register_line,
+  enable_line,
+  inject_line,
+  again_line,
+  start_line,
+  unmask_line,
+  complete_line,
+  ack_lines,
   register_lines,
   global_lines,
   event_lines,
@@ -66,12 +76,93 @@ fn loop_of(hart: u64) -> u64
     start_of(hart) + if hart == 0 { 44 } else { 28 }
 }
 
+#[tactic(auto, using(crate::proofs::Lines::parts), unfolding(crate::specs::Load::line_text, crate::specs::Load::at_line))]
+fn write_at(text: &mut String, address: u64) -> Result<(), AllocError>
+    ensures { OnOk result (string_bytes text.new ≡ string_bytes text.old ++ line_text (at_line address)) }
+{
+    writeln!(text, "at {address}")
+}
+
+#[tactic(auto, using(crate::proofs::Lines::parts), unfolding(crate::specs::Load::line_text, crate::specs::Load::inc_line))]
+fn write_inc(text: &mut String, word: u64) -> Result<(), AllocError>
+    ensures { OnOk result (string_bytes text.new ≡ string_bytes text.old ++ line_text (inc_line word)) }
+{
+    writeln!(text, "op inc {word}")
+}
+
+#[tactic(auto, using(crate::proofs::Lines::parts), unfolding(crate::specs::Load::line_text, crate::specs::Load::register_line))]
+fn write_register(text: &mut String, id: &str, entry: u64) -> Result<(), AllocError>
+    ensures { OnOk result (string_bytes text.new ≡ string_bytes text.old ++ line_text (register_line id.now entry)) }
+{
+    writeln!(text, "op sbi 0x535345 2 {id} {entry} 0")
+}
+
+#[tactic(auto, using(crate::proofs::Lines::parts), unfolding(crate::specs::Load::line_text, crate::specs::Load::enable_line))]
+fn write_enable(text: &mut String, id: &str) -> Result<(), AllocError>
+    ensures { OnOk result (string_bytes text.new ≡ string_bytes text.old ++ line_text (enable_line id.now)) }
+{
+    writeln!(text, "op sbi 0x535345 4 {id}")
+}
+
+/// The event is raised on the next hart.
+#[tactic(auto, using(crate::proofs::Lines::parts), unfolding(crate::specs::Load::line_text, crate::specs::Load::inject_line))]
+fn write_inject(text: &mut String, hart: u64) -> Result<(), AllocError>
+    requires { hart < 4 }
+    ensures { OnOk result (string_bytes text.new ≡ string_bytes text.old ++ line_text (inject_line hart)) }
+{
+    let next = (hart + 1) % HARTS;
+    writeln!(text, "op sbi 0x535345 7 0xffff0000 {next}")
+}
+
+/// Back to where the loop begins, before its turn 200.
+#[tactic(auto, using(crate::proofs::Lines::parts), unfolding(crate::specs::Load::line_text, crate::specs::Load::again_line))]
+fn write_again(text: &mut String, hart: u64) -> Result<(), AllocError>
+    requires { hart < 4 }
+    ensures { OnOk result (string_bytes text.new ≡ string_bytes text.old ++ line_text (again_line hart)) }
+{
+    let turns = turns_word(hart);
+    let begin = loop_of(hart);
+    writeln!(text, "op jlt {turns} 200 {begin}")
+}
+
+#[tactic(auto, using(crate::proofs::Lines::parts), unfolding(crate::specs::Load::line_text, crate::specs::Load::start_line))]
+fn write_start(text: &mut String, hart: u64) -> Result<(), AllocError>
+    requires { hart < 4 }
+    ensures { OnOk result (string_bytes text.new ≡ string_bytes text.old ++ line_text (start_line hart)) }
+{
+    let start = start_of(hart);
+    writeln!(text, "start {hart} {start} 10000")
+}
+
+#[tactic(auto, unfolding(crate::specs::Load::line_text, crate::specs::Load::unmask_line))]
+fn write_unmask(text: &mut String) -> Result<(), AllocError>
+    ensures { OnOk result (string_bytes text.new ≡ string_bytes text.old ++ line_text unmask_line) }
+{
+    text.push_str("op sbi 0x535345 8\n")
+}
+
+#[tactic(auto, unfolding(crate::specs::Load::line_text, crate::specs::Load::complete_line))]
+fn write_complete(text: &mut String) -> Result<(), AllocError>
+    ensures { OnOk result (string_bytes text.new ≡ string_bytes text.old ++ line_text complete_line) }
+{
+    text.push_str("op sbi 0x535345 6\n")
+}
+
+/// The block of each bank is taken.
+#[tactic(auto, unfolding(crate::specs::Load::lines_text, crate::specs::Load::line_text, crate::specs::Load::ack_lines))]
+fn write_acks(text: &mut String) -> Result<(), AllocError>
+    ensures { OnOk result (string_bytes text.new ≡ string_bytes text.old ++ lines_text ack_lines) }
+{
+    text.push_str("op ack 0\nop ack 1\nop ack 2\n")
+}
+
 /// Registers an event with its handler, and enables it.
-#[tactic(auto, using(crate::proofs::Lines::parts), unfolding(crate::specs::Load::lines_text, crate::specs::Load::line_text, crate::specs::Load::register_lines))]
+#[tactic(auto, using(crate::proofs::Lines::joining), unfolding(crate::specs::Load::register_lines))]
 fn write_registration(text: &mut String, id: &str, entry: u64) -> Result<(), AllocError>
     ensures { OnOk result (string_bytes text.new ≡ string_bytes text.old ++ lines_text (register_lines id.now entry)) }
 {
-    writeln!(text, "op sbi 0x535345 2 {id} {entry} 0\nop sbi 0x535345 4 {id}")
+    write_register(text, id, entry)?;
+    write_enable(text, id)
 }
 
 /// Registers the global events, which are hart 0's.
@@ -99,47 +190,39 @@ fn write_events(text: &mut String, hart: u64) -> Result<(), AllocError>
     write_globals(text, hart)
 }
 
-/// The loop: the event is raised on the next hart, 200 times.
-#[tactic(auto, using(crate::proofs::Lines::parts), unfolding(crate::specs::Load::lines_text, crate::specs::Load::line_text, crate::specs::Load::loop_lines))]
+/// The loop, in which the hart raises the event on the next one.
+#[tactic(auto, using(crate::proofs::Lines::joining), unfolding(crate::specs::Load::loop_lines))]
 fn write_loop(text: &mut String, hart: u64) -> Result<(), AllocError>
     requires { hart < 4 }
     ensures { OnOk result (string_bytes text.new ≡ string_bytes text.old ++ lines_text (loop_lines hart)) }
 {
-    let turns = turns_word(hart);
-    let next = (hart + 1) % HARTS;
-    let begin = loop_of(hart);
-    writeln!(text, "op sbi 0x535345 8\nop inc {turns}")?;
-    writeln!(text, "op sbi 0x535345 7 0xffff0000 {next}\nop jlt {turns} 200 {begin}")
+    write_unmask(text)?;
+    write_inc(text, turns_word(hart))?;
+    write_inject(text, hart)?;
+    write_again(text, hart)
 }
 
-/// The handler of the events that banks signal: it counts, and takes the block of each bank.
-#[tactic(auto, using(crate::proofs::Lines::parts), unfolding(crate::specs::Load::lines_text, crate::specs::Load::line_text, crate::specs::Load::bank_handler_lines))]
+/// The handler of the events that banks signal.
+#[tactic(auto, using(crate::proofs::Lines::joining), unfolding(crate::specs::Load::bank_handler_lines))]
 fn write_bank_handler(text: &mut String, hart: u64) -> Result<(), AllocError>
     requires { hart < 4 }
     ensures { OnOk result (string_bytes text.new ≡ string_bytes text.old ++ lines_text (bank_handler_lines hart)) }
 {
-    let handler = bank_handler(hart);
-    let count = turns_word(hart) + 128;
-    writeln!(text, "at {handler}\nop inc {count}\nop ack 0\nop ack 1\nop ack 2\nop sbi 0x535345 6")
+    write_at(text, bank_handler(hart))?;
+    write_inc(text, turns_word(hart) + 128)?;
+    write_acks(text)?;
+    write_complete(text)
 }
 
-/// The handler of the event that harts raise, which counts; and the hart's start.
-#[tactic(auto, using(crate::proofs::Lines::parts), unfolding(crate::specs::Load::lines_text, crate::specs::Load::line_text, crate::specs::Load::raise_handler_lines))]
+/// The handler of the event that harts raise.
+#[tactic(auto, using(crate::proofs::Lines::joining), unfolding(crate::specs::Load::raise_handler_lines))]
 fn write_raise_handler(text: &mut String, hart: u64) -> Result<(), AllocError>
     requires { hart < 4 }
     ensures { OnOk result (string_bytes text.new ≡ string_bytes text.old ++ lines_text (raise_handler_lines hart)) }
 {
-    let handler = raise_handler(hart);
-    let count = turns_word(hart) + 256;
-    let start = start_of(hart);
-    writeln!(text, "at {handler}\nop inc {count}\nop sbi 0x535345 6\nstart {hart} {start} 10000")
-}
-
-#[tactic(auto, using(crate::proofs::Lines::parts), unfolding(crate::specs::Load::lines_text, crate::specs::Load::line_text, crate::specs::Load::at_lines))]
-fn write_at(text: &mut String, address: u64) -> Result<(), AllocError>
-    ensures { OnOk result (string_bytes text.new ≡ string_bytes text.old ++ lines_text (at_lines address)) }
-{
-    writeln!(text, "at {address}")
+    write_at(text, raise_handler(hart))?;
+    write_inc(text, turns_word(hart) + 256)?;
+    write_complete(text)
 }
 
 /// What a hart does.
@@ -152,7 +235,8 @@ fn write_hart(text: &mut String, hart: u64) -> Result<(), AllocError>
     write_events(text, hart)?;
     write_loop(text, hart)?;
     write_bank_handler(text, hart)?;
-    write_raise_handler(text, hart)
+    write_raise_handler(text, hart)?;
+    write_start(text, hart)
 }
 
 /// What all harts do.
