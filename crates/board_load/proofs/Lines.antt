@@ -1,7 +1,7 @@
 -- Texts of lines, one after another.
-use Rattle.std.proofs.Common.{◌≡◌, List, [], ◌∷◌, ◌++◌, ◌+◌, ◌*◌, ◌/◌, ◌^◌, ℕ, suc, arith, refl, sym, ap, ◌∙◌}
+use Rattle.std.proofs.Common.{◌≡◌, List, [], ◌∷◌, ◌++◌, ◌+◌, ◌*◌, ◌/◌, ◌^◌, ℕ, suc, codes, decimal, arith, refl, sym, ap, ◌∙◌}
 use mathlib.Core.List.{append_assoc, append-nil}
-use Rattle.board_load.specs.Load.{line_text, lines_text, lines_below, error_line, act_lines, next_state, state_after, drawn}
+use Rattle.board_load.specs.Load.{line_text, lines_text, lines_below, error_line, act_lines, next_state, state_after, drawn, register_line}
 
 -- the text of two parts
 pub lines_append : (a b : List (List (List ℕ))) → lines_text (a ++ b) ≡ lines_text a ++ lines_text b
@@ -67,3 +67,10 @@ text_more f k before text new e more =
     ∙ ap (λ t. t ++ lines_text (f k)) e
     ∙ append_assoc before (lines_text (lines_below f k)) (lines_text (f k))
     ∙ ap (λ t. before ++ t) (sym (one_more_below f k))
+
+-- the line that registers an event, piece by piece
+pub register_text : (id : List ℕ) (entry : ℕ) →
+    codes "op sbi 0x535345 2 " ++ (id ++ (codes " " ++ (decimal entry ++ codes " 0\n")))
+    ≡ line_text (register_line id entry)
+unfolding line_text register_line
+register_text id entry = simp (append_assoc, append-nil) refl
