@@ -1,5 +1,5 @@
--- The script of the load of a number: four harts that raise an event on one another in a loop, and 2000 errors from four
--- reporters, drawn by a generator that the number starts. This project's own. Each line is the list of its words.
+-- The script of the load of a number: four harts that raise an event on one another in a loop, and 2000 errors from
+-- four reporters, drawn by a generator that the number starts. This project's own. Each line is the list of its words.
 use Rattle.std.specs.Prelude.{ℕ, zero, suc, ◌+◌, ◌*◌, ◌/◌, ◌%◌, ◌^◌, ◌==◌, nat_lt, if◌then◌else◌}
 use Rattle.std.specs.Prelude.{List, [], ◌∷◌, ◌++◌, codes, decimal}
 use Rattle.std.specs.List.{join_with_byte}
@@ -19,9 +19,14 @@ unfoldable pub lines_below : (ℕ → List (List (List ℕ))) → ℕ → List (
 lines_below f zero = []
 lines_below f (suc k) = lines_below f k ++ f k
 
+-- the same, where f gives one line of each number
+unfoldable pub line_below : (ℕ → List (List ℕ)) → ℕ → List (List (List ℕ))
+line_below f zero = []
+line_below f (suc k) = line_below f k ++ f k ∷ []
+
 -- ---- The board, its events, banks and records ----
 
-unfoldable pub board_lines : List (List (List ℕ))
+abbrev pub board_lines : List (List (List ℕ))
 board_lines =
     (codes "board" ∷ codes "1" ∷ codes "4" ∷ [])
     ∷ (codes "event" ∷ codes "0x0" ∷ codes "noinject" ∷ [])
@@ -38,13 +43,13 @@ board_lines =
 abbrev pub control_word : ℕ → List ℕ
 control_word sum = if sum % 2 == 1 then codes "0x97" else codes "0x95"
 
-unfoldable pub record_lines : ℕ → ℕ → ℕ → List (List (List ℕ))
-record_lines n bank rec =
-    (codes "record" ∷ decimal bank ∷ decimal rec ∷ control_word (bank + rec + n) ∷ codes "0" ∷ []) ∷ []
+abbrev pub record_line : ℕ → ℕ → ℕ → List (List ℕ)
+record_line n bank rec =
+    codes "record" ∷ decimal bank ∷ decimal rec ∷ control_word (bank + rec + n) ∷ codes "0" ∷ []
 
 -- the four records of a bank
 unfoldable pub bank_lines : ℕ → ℕ → List (List (List ℕ))
-bank_lines n bank = lines_below (record_lines n bank) 4
+bank_lines n bank = line_below (record_line n bank) 4
 
 -- ---- What a hart does ----
 
@@ -74,39 +79,39 @@ raise_count hart = turns_word hart + 256
 abbrev pub loop_of : ℕ → ℕ
 loop_of hart = start_of hart + (if hart == 0 then 44 else 28)
 
-unfoldable pub at_line : ℕ → List (List ℕ)
+abbrev pub at_line : ℕ → List (List ℕ)
 at_line address = codes "at" ∷ decimal address ∷ []
 
 -- a call of the firmware with no argument
 abbrev pub call_line : List ℕ → List (List ℕ)
 call_line function = codes "op" ∷ codes "sbi" ∷ codes "0x535345" ∷ function ∷ []
 
-unfoldable pub register_line : List ℕ → ℕ → List (List ℕ)
+abbrev pub register_line : List ℕ → ℕ → List (List ℕ)
 register_line id entry =
     codes "op" ∷ codes "sbi" ∷ codes "0x535345" ∷ codes "2" ∷ id ∷ decimal entry ∷ codes "0" ∷ []
 
-unfoldable pub enable_line : List ℕ → List (List ℕ)
+abbrev pub enable_line : List ℕ → List (List ℕ)
 enable_line id = codes "op" ∷ codes "sbi" ∷ codes "0x535345" ∷ codes "4" ∷ id ∷ []
 
-unfoldable pub unmask_line : List (List ℕ)
+abbrev pub unmask_line : List (List ℕ)
 unmask_line = call_line (codes "8")
 
-unfoldable pub complete_line : List (List ℕ)
+abbrev pub complete_line : List (List ℕ)
 complete_line = call_line (codes "6")
 
-unfoldable pub inc_line : ℕ → List (List ℕ)
+abbrev pub inc_line : ℕ → List (List ℕ)
 inc_line word = codes "op" ∷ codes "inc" ∷ decimal word ∷ []
 
 -- the event is raised on the next hart
-unfoldable pub inject_line : ℕ → List (List ℕ)
+abbrev pub inject_line : ℕ → List (List ℕ)
 inject_line hart =
     codes "op" ∷ codes "sbi" ∷ codes "0x535345" ∷ codes "7" ∷ codes "0xffff0000" ∷ decimal ((hart + 1) % 4) ∷ []
 
 -- back to where the loop begins, before its turn 200
-unfoldable pub again_line : ℕ → List (List ℕ)
+abbrev pub again_line : ℕ → List (List ℕ)
 again_line hart = codes "op" ∷ codes "jlt" ∷ decimal (turns_word hart) ∷ codes "200" ∷ decimal (loop_of hart) ∷ []
 
-unfoldable pub start_line : ℕ → List (List ℕ)
+abbrev pub start_line : ℕ → List (List ℕ)
 start_line hart = codes "start" ∷ decimal hart ∷ decimal (start_of hart) ∷ codes "10000" ∷ []
 
 -- an event is registered with its handler, and enabled
@@ -131,7 +136,7 @@ unfoldable pub loop_lines : ℕ → List (List (List ℕ))
 loop_lines hart = unmask_line ∷ inc_line (turns_word hart) ∷ inject_line hart ∷ again_line hart ∷ []
 
 -- the block of each bank is taken
-unfoldable pub ack_lines : List (List (List ℕ))
+abbrev pub ack_lines : List (List (List ℕ))
 ack_lines =
     (codes "op" ∷ codes "ack" ∷ codes "0" ∷ [])
     ∷ (codes "op" ∷ codes "ack" ∷ codes "1" ∷ [])
@@ -171,21 +176,21 @@ abbrev pub severity_word : ℕ → List ℕ
 severity_word s = if nat_lt s 6 then codes "ce" else (if s == 6 then codes "ued" else codes "uec")
 
 -- the act of a number of a reporter, from what was drawn for it; its number is also its info and its time
-unfoldable pub error_line : ℕ → ℕ → ℕ → List (List ℕ)
+abbrev pub error_line : ℕ → ℕ → ℕ → List (List ℕ)
 error_line reporter i r =
     codes "act" ∷ decimal reporter ∷ codes "error" ∷ decimal (r % 3) ∷ decimal (r / 3 % 4)
     ∷ severity_word (r / 12 % 8) ∷ decimal (r / 96 % 4) ∷ decimal (r / 384 % 256) ∷ decimal (4096 * (r / 98304 % 64))
     ∷ decimal i ∷ codes "0" ∷ decimal i ∷ []
 
 -- the draws run on through the acts of all reporters
-unfoldable pub act_lines : ℕ → ℕ → ℕ → List (List (List ℕ))
-act_lines n reporter i = error_line reporter i (drawn n (500 * reporter + i)) ∷ []
+unfoldable pub act_line : ℕ → ℕ → ℕ → List (List ℕ)
+act_line n reporter i = error_line reporter i (drawn n (500 * reporter + i))
 
 -- the 500 acts of a reporter
 unfoldable pub reporter_lines : ℕ → ℕ → List (List (List ℕ))
-reporter_lines n reporter = lines_below (act_lines n reporter) 500
+reporter_lines n reporter = line_below (act_line n reporter) 500
 
-unfoldable pub list_lines : List (List (List ℕ))
+abbrev pub list_lines : List (List (List ℕ))
 list_lines =
     (codes "reporter" ∷ codes "list" ∷ [])
     ∷ (codes "reporter" ∷ codes "list" ∷ [])

@@ -2,11 +2,12 @@
 
 ghost use Rattle.std.specs.Prelude.{◌≡◌, ◌<◌, ◌≤◌, ◌+◌, ◌++◌, OnOk, string_bytes};
 ghost use Rattle.board_load.specs.Load.{
+  line_text,
   lines_text,
   lines_below,
   board_lines,
   control_word,
-  record_lines,
+  record_line,
   bank_lines,
   list_lines,
 };
@@ -19,7 +20,7 @@ const BANKS: u64 = 3;
 const RECORDS: u64 = 4;
 
 /// The board, its events and its banks.
-#[tactic(auto, unfolding(crate::specs::Load::lines_text, crate::specs::Load::line_text, crate::specs::Load::board_lines))]
+#[tactic(auto, unfolding(crate::specs::Load::lines_text, crate::specs::Load::line_text))]
 pub(crate) fn write_board(text: &mut String) -> Result<(), AllocError>
     ensures { OnOk result (string_bytes text.new ≡ string_bytes text.old ++ lines_text board_lines) }
 {
@@ -44,11 +45,11 @@ fn control_word(sum: u64) -> &'static str
     if sum % 2 == 1 { "0x97" } else { "0x95" }
 }
 
-#[tactic(auto, using(crate::proofs::Lines::parts), unfolding(crate::specs::Load::lines_text, crate::specs::Load::line_text, crate::specs::Load::record_lines))]
+#[tactic(auto, using(crate::proofs::Lines::parts), unfolding(crate::specs::Load::line_text))]
 fn write_record(text: &mut String, n: u16, bank: u64, rec: u64) -> Result<(), AllocError>
     requires bank { bank < 3 }
     requires rec { rec < 4 }
-    ensures { OnOk result (string_bytes text.new ≡ string_bytes text.old ++ lines_text (record_lines n bank rec)) }
+    ensures { OnOk result (string_bytes text.new ≡ string_bytes text.old ++ line_text (record_line n bank rec)) }
 {
     let control = control_word(bank + rec + u64::from(n));
     writeln!(text, "record {bank} {rec} {control} 0")
@@ -77,7 +78,7 @@ pub(crate) fn write_records(text: &mut String, n: u16) -> Result<(), AllocError>
 }
 
 /// The reporters, whose acts follow.
-#[tactic(auto, unfolding(crate::specs::Load::lines_text, crate::specs::Load::line_text, crate::specs::Load::list_lines))]
+#[tactic(auto, unfolding(crate::specs::Load::lines_text, crate::specs::Load::line_text))]
 pub(crate) fn write_lists(text: &mut String) -> Result<(), AllocError>
     ensures { OnOk result (string_bytes text.new ≡ string_bytes text.old ++ lines_text list_lines) }
 {

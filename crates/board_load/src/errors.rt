@@ -1,7 +1,8 @@
 //! The errors that the load's reporters make, drawn by a generator.
 
-ghost use Rattle.std.specs.Prelude.{◌≡◌, ◌<◌, ◌≤◌, ◌+◌, ◌*◌, ◌/◌, ◌^◌, ◌++◌, ◌∷◌, [], OnOk, string_bytes};
+ghost use Rattle.std.specs.Prelude.{◌≡◌, ◌<◌, ◌≤◌, ◌+◌, ◌*◌, ◌/◌, ◌^◌, ◌++◌, OnOk, string_bytes};
 ghost use Rattle.board_load.specs.Load.{
+  line_text,
   lines_text,
   lines_below,
   next_state,
@@ -58,10 +59,10 @@ fn severity_word(drawn: u64) -> &'static str
 }
 
 /// The act of a number of a reporter, from what was drawn for it.
-#[tactic(auto, using(crate::proofs::Lines::parts), unfolding(crate::specs::Load::lines_text, crate::specs::Load::line_text, crate::specs::Load::error_line))]
+#[tactic(auto, using(crate::proofs::Lines::parts), unfolding(crate::specs::Load::line_text))]
 fn write_error(text: &mut String, reporter: u64, i: u64, drawn: u64) -> Result<(), AllocError>
     ensures { OnOk result (string_bytes text.new
-        ≡ string_bytes text.old ++ lines_text (error_line reporter i drawn ∷ [])) }
+        ≡ string_bytes text.old ++ line_text (error_line reporter i drawn)) }
 {
     let bank = drawn % 3;
     let rec = drawn / 3 % 4;
@@ -69,12 +70,20 @@ fn write_error(text: &mut String, reporter: u64, i: u64, drawn: u64) -> Result<(
     let priority = drawn / 96 % 4;
     let code = drawn / 384 % 256;
     let address = 4096 * (drawn / 98304 % 64);
-    writeln!(text, "act {reporter} error {bank} {rec} {severity} {priority} {code} {address} {i} 0 {i}")
+    writeln!(
+        text,
+        "act {reporter} error {bank} {rec} {severity} {priority} {code} {address} {i} 0 {i}"
+    )
 }
 
 /// The acts of a reporter: the draws stand where those of the reporters before it left them.
 
-fn write_reporter(text: &mut String, n: u16, reporter: u64, draws: &mut Draws) -> Result<(), AllocError>
+fn write_reporter(
+    text: &mut String,
+    n: u16,
+    reporter: u64,
+    draws: &mut Draws,
+) -> Result<(), AllocError>
     requires few { reporter < 4 }
     requires drawn { draws.old.state ≡ state_after n (500 * reporter) }
     ensures text { OnOk result (string_bytes text.new

@@ -76,28 +76,28 @@ fn loop_of(hart: u64) -> u64
     start_of(hart) + if hart == 0 { 44 } else { 28 }
 }
 
-#[tactic(auto, using(crate::proofs::Lines::parts), unfolding(crate::specs::Load::line_text, crate::specs::Load::at_line))]
+#[tactic(auto, using(crate::proofs::Lines::parts), unfolding(crate::specs::Load::line_text))]
 fn write_at(text: &mut String, address: u64) -> Result<(), AllocError>
     ensures { OnOk result (string_bytes text.new ≡ string_bytes text.old ++ line_text (at_line address)) }
 {
     writeln!(text, "at {address}")
 }
 
-#[tactic(auto, using(crate::proofs::Lines::parts), unfolding(crate::specs::Load::line_text, crate::specs::Load::inc_line))]
+#[tactic(auto, using(crate::proofs::Lines::parts), unfolding(crate::specs::Load::line_text))]
 fn write_inc(text: &mut String, word: u64) -> Result<(), AllocError>
     ensures { OnOk result (string_bytes text.new ≡ string_bytes text.old ++ line_text (inc_line word)) }
 {
     writeln!(text, "op inc {word}")
 }
 
-#[tactic(auto, using(crate::proofs::Lines::parts), unfolding(crate::specs::Load::line_text, crate::specs::Load::register_line))]
+#[tactic(auto, using(crate::proofs::Lines::parts), unfolding(crate::specs::Load::line_text))]
 fn write_register(text: &mut String, id: &str, entry: u64) -> Result<(), AllocError>
     ensures { OnOk result (string_bytes text.new ≡ string_bytes text.old ++ line_text (register_line id.now entry)) }
 {
     writeln!(text, "op sbi 0x535345 2 {id} {entry} 0")
 }
 
-#[tactic(auto, using(crate::proofs::Lines::parts), unfolding(crate::specs::Load::line_text, crate::specs::Load::enable_line))]
+#[tactic(auto, using(crate::proofs::Lines::parts), unfolding(crate::specs::Load::line_text))]
 fn write_enable(text: &mut String, id: &str) -> Result<(), AllocError>
     ensures { OnOk result (string_bytes text.new ≡ string_bytes text.old ++ line_text (enable_line id.now)) }
 {
@@ -105,7 +105,7 @@ fn write_enable(text: &mut String, id: &str) -> Result<(), AllocError>
 }
 
 /// The event is raised on the next hart.
-#[tactic(auto, using(crate::proofs::Lines::parts), unfolding(crate::specs::Load::line_text, crate::specs::Load::inject_line))]
+#[tactic(auto, using(crate::proofs::Lines::parts), unfolding(crate::specs::Load::line_text))]
 fn write_inject(text: &mut String, hart: u64) -> Result<(), AllocError>
     requires { hart < 4 }
     ensures { OnOk result (string_bytes text.new ≡ string_bytes text.old ++ line_text (inject_line hart)) }
@@ -115,7 +115,7 @@ fn write_inject(text: &mut String, hart: u64) -> Result<(), AllocError>
 }
 
 /// Back to where the loop begins, before its turn 200.
-#[tactic(auto, using(crate::proofs::Lines::parts), unfolding(crate::specs::Load::line_text, crate::specs::Load::again_line))]
+#[tactic(auto, using(crate::proofs::Lines::parts), unfolding(crate::specs::Load::line_text))]
 fn write_again(text: &mut String, hart: u64) -> Result<(), AllocError>
     requires { hart < 4 }
     ensures { OnOk result (string_bytes text.new ≡ string_bytes text.old ++ line_text (again_line hart)) }
@@ -125,7 +125,7 @@ fn write_again(text: &mut String, hart: u64) -> Result<(), AllocError>
     writeln!(text, "op jlt {turns} 200 {begin}")
 }
 
-#[tactic(auto, using(crate::proofs::Lines::parts), unfolding(crate::specs::Load::line_text, crate::specs::Load::start_line))]
+#[tactic(auto, using(crate::proofs::Lines::parts), unfolding(crate::specs::Load::line_text))]
 fn write_start(text: &mut String, hart: u64) -> Result<(), AllocError>
     requires { hart < 4 }
     ensures { OnOk result (string_bytes text.new ≡ string_bytes text.old ++ line_text (start_line hart)) }
@@ -134,14 +134,14 @@ fn write_start(text: &mut String, hart: u64) -> Result<(), AllocError>
     writeln!(text, "start {hart} {start} 10000")
 }
 
-#[tactic(auto, unfolding(crate::specs::Load::line_text, crate::specs::Load::unmask_line))]
+#[tactic(auto, unfolding(crate::specs::Load::line_text))]
 fn write_unmask(text: &mut String) -> Result<(), AllocError>
     ensures { OnOk result (string_bytes text.new ≡ string_bytes text.old ++ line_text unmask_line) }
 {
     text.push_str("op sbi 0x535345 8\n")
 }
 
-#[tactic(auto, unfolding(crate::specs::Load::line_text, crate::specs::Load::complete_line))]
+#[tactic(auto, unfolding(crate::specs::Load::line_text))]
 fn write_complete(text: &mut String) -> Result<(), AllocError>
     ensures { OnOk result (string_bytes text.new ≡ string_bytes text.old ++ line_text complete_line) }
 {
@@ -149,7 +149,7 @@ fn write_complete(text: &mut String) -> Result<(), AllocError>
 }
 
 /// The block of each bank is taken.
-#[tactic(auto, unfolding(crate::specs::Load::lines_text, crate::specs::Load::line_text, crate::specs::Load::ack_lines))]
+#[tactic(auto, unfolding(crate::specs::Load::lines_text, crate::specs::Load::line_text))]
 fn write_acks(text: &mut String) -> Result<(), AllocError>
     ensures { OnOk result (string_bytes text.new ≡ string_bytes text.old ++ lines_text ack_lines) }
 {

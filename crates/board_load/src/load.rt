@@ -13,7 +13,7 @@ use std::alloc::{AllocError, Global};
 const ROOM: usize = 131_072;
 
 /// All lines.
-#[tactic(auto, using(crate::proofs::Lines::joining), unfolding(crate::specs::Load::load_lines))]
+#[tactic(auto, using(crate::proofs::Lines::whole))]
 fn write_all(text: &mut String, n: u16) -> Result<(), AllocError>
     ensures { OnOk result (string_bytes text.new ≡ string_bytes text.old ++ lines_text (load_lines n)) }
 {

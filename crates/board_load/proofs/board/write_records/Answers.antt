@@ -1,6 +1,5 @@
 -- Goals of `write_records` that the tactics leave open.
-use Rattle.std.proofs.Common.{ap, arith, ◌∙◌, ◌≡◌, ◌++◌, string_bytes}
-use Rattle.board_load.specs.Load.{lines_text, lines_below, bank_lines, bank_lines}
+use Rattle.board_load.specs.Load.{bank_lines, bank_lines}
 use Rattle.board_load.proofs.Lines.{text_none, text_more}
 use Rattle.board_load.proofs.board.write_records.Goals as goal
 

@@ -1,6 +1,5 @@
 -- Goals of `write_harts` that the tactics leave open.
-use Rattle.std.proofs.Common.{ap, arith, ◌∙◌, ◌≡◌, ◌++◌, string_bytes}
-use Rattle.board_load.specs.Load.{lines_text, lines_below, bank_lines, hart_lines}
+use Rattle.board_load.specs.Load.{hart_lines}
 use Rattle.board_load.proofs.Lines.{text_none, text_more}
 use Rattle.board_load.proofs.harts.write_harts.Goals as goal
 
