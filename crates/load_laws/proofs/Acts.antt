@@ -1,5 +1,5 @@
 -- The acts of a load are read: each reporter has room for them.
-use Rattle.std.proofs.Common.{◌≡◌, ℕ, zero, suc, ◌+◌, ◌*◌, ◌/◌, ◌%◌, ◌^◌, ◌<◌, ◌≤◌, ◌==◌, nat_lt, Bool, true, false, if◌then◌else◌, List, [], ◌∷◌, ◌++◌, length, None, Ok, refl, sym, ap, ◌∙◌, arith, decimal, codes, subst, length-append}
+use Rattle.std.proofs.Common.{◌≡◌, ℕ, zero, suc, ◌+◌, ◌*◌, ◌/◌, ◌%◌, ◌<◌, ◌≤◌, ◌==◌, nat_lt, Bool, true, false, if◌then◌else◌, List, [], ◌∷◌, ◌++◌, length, None, Ok, refl, sym, ap, ◌∙◌, arith, decimal, codes, subst, length-append}
 use Rattle.std.proofs.lemmas.Bool.{lt-ltb}
 use Rattle.std.proofs.lemmas.Fmt.{decimal_digit}
 use Rattle.reri_fields.specs.declared.report.Report.{Report}
@@ -84,8 +84,16 @@ act_made zero r m h low f room p =
       half = with_reporters p.rest (four (p.a ++ Error r ∷ []) p.b p.c p.d);
       made = rw (p.whole, known p.a p.b p.c p.d 0 low, error_again r f, lt-ltb (length p.a) 10000 (omega arith)) refl;
       roomy = record {
-        rest = p.rest; a = p.a ++ Error r ∷ []; b = p.b; c = p.c; d = p.d; whole = refl;
-        low_a = one_more p.a (Error r) m la; low_b = omega arith; low_c = omega arith; low_d = omega arith;
+        rest = p.rest;
+        a = p.a ++ Error r ∷ [];
+        b = p.b;
+        c = p.c;
+        d = p.d;
+        whole = refl;
+        low_a = one_more p.a (Error r) m la;
+        low_b = omega arith;
+        low_c = omega arith;
+        low_d = omega arith;
       };
     }
 act_made (suc zero) r m h low f room p =
@@ -94,8 +102,16 @@ act_made (suc zero) r m h low f room p =
       half = with_reporters p.rest (four p.a (p.b ++ Error r ∷ []) p.c p.d);
       made = rw (p.whole, known p.a p.b p.c p.d 1 low, error_again r f, lt-ltb (length p.b) 10000 (omega arith)) refl;
       roomy = record {
-        rest = p.rest; a = p.a; b = p.b ++ Error r ∷ []; c = p.c; d = p.d; whole = refl;
-        low_a = omega arith; low_b = one_more p.b (Error r) m lb; low_c = omega arith; low_d = omega arith;
+        rest = p.rest;
+        a = p.a;
+        b = p.b ++ Error r ∷ [];
+        c = p.c;
+        d = p.d;
+        whole = refl;
+        low_a = omega arith;
+        low_b = one_more p.b (Error r) m lb;
+        low_c = omega arith;
+        low_d = omega arith;
       };
     }
 act_made (suc (suc zero)) r m h low f room p =
@@ -104,8 +120,16 @@ act_made (suc (suc zero)) r m h low f room p =
       half = with_reporters p.rest (four p.a p.b (p.c ++ Error r ∷ []) p.d);
       made = rw (p.whole, known p.a p.b p.c p.d 2 low, error_again r f, lt-ltb (length p.c) 10000 (omega arith)) refl;
       roomy = record {
-        rest = p.rest; a = p.a; b = p.b; c = p.c ++ Error r ∷ []; d = p.d; whole = refl;
-        low_a = omega arith; low_b = omega arith; low_c = one_more p.c (Error r) m lc; low_d = omega arith;
+        rest = p.rest;
+        a = p.a;
+        b = p.b;
+        c = p.c ++ Error r ∷ [];
+        d = p.d;
+        whole = refl;
+        low_a = omega arith;
+        low_b = omega arith;
+        low_c = one_more p.c (Error r) m lc;
+        low_d = omega arith;
       };
     }
 act_made (suc (suc (suc zero))) r m h low f room p =
@@ -114,8 +138,16 @@ act_made (suc (suc (suc zero))) r m h low f room p =
       half = with_reporters p.rest (four p.a p.b p.c (p.d ++ Error r ∷ []));
       made = rw (p.whole, known p.a p.b p.c p.d 3 low, error_again r f, lt-ltb (length p.d) 10000 (omega arith)) refl;
       roomy = record {
-        rest = p.rest; a = p.a; b = p.b; c = p.c; d = p.d ++ Error r ∷ []; whole = refl;
-        low_a = omega arith; low_b = omega arith; low_c = omega arith; low_d = one_more p.d (Error r) m ld;
+        rest = p.rest;
+        a = p.a;
+        b = p.b;
+        c = p.c;
+        d = p.d ++ Error r ∷ [];
+        whole = refl;
+        low_a = omega arith;
+        low_b = omega arith;
+        low_c = omega arith;
+        low_d = one_more p.d (Error r) m ld;
       };
     }
 act_made (suc (suc (suc (suc k)))) r m h low f room p = absurd (omega arith)
@@ -186,7 +218,12 @@ line_is k r low f =
       severity_plain r.severity,
       (plain_decimal r.priority (omega arith), (plain_decimal r.code (omega arith), values)),
     ) in
-    ((refl, (plain_decimal k (omega arith), (refl, (plain_decimal r.bank (omega arith), (plain_decimal r.rec (omega arith), levels))))), refl)
+    let places : ArePlain (decimal r.bank ∷ decimal r.rec ∷ severity_word r.severity ∷ decimal r.priority
+    ∷ decimal r.code ∷ decimal r.address ∷ decimal r.info ∷ decimal r.supplement ∷ decimal r.time ∷ []) = (
+      plain_decimal r.bank (omega arith),
+      (plain_decimal r.rec (omega arith), levels),
+    ) in
+    ((refl, (plain_decimal k (omega arith), (refl, places))), refl)
 
 -- ---- Many acts ----
 
@@ -229,7 +266,8 @@ acts_made n k low (suc i) m h few room p =
     (one_act k i (load.drawn n (500 * k + i)) (m + i) before.half low (omega arith) (omega arith) before.roomy))
 
 -- the acts of the first reporters
-pub all_made : (n k : ℕ) → k ≤ 4 → (h : Half) → Roomy 0 h → Made (500 * k) h (load.lines_below (load.reporter_lines n) k)
+pub all_made : (n k : ℕ) → k ≤ 4 → (h : Half) → Roomy 0 h
+    → Made (500 * k) h (load.lines_below (load.reporter_lines n) k)
 unfolding load.lines_below load.reporter_lines
 all_made n zero low h p = record { half = h; makes = makes_none h h refl; roomy = p }
 all_made n (suc k) low h p =

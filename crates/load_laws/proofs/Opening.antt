@@ -12,9 +12,9 @@ use Rattle.board_plan.specs.Script.{Half, bare_board, has_event, has_record, has
 use Rattle.board_script.proofs.Chains.{Each}
 use Rattle.board_script.proofs.Fits.{with_reporters}
 use Rattle.board_script.proofs.Steps.{both_true}
-use Rattle.board_script.proofs.Texts.{IsLine, IsPlain, ArePlain, is_plain, Makes, run}
+use Rattle.board_script.proofs.Texts.{IsLine, ArePlain, is_plain, run}
 use Rattle.board_load.specs.Load.{record_line, lines_below, line_below, board_lines, bank_lines, register_lines, global_lines, event_lines, loop_lines, bank_handler_lines, raise_handler_lines, hart_lines, list_lines}
-use Rattle.load_laws.proofs.Acts.{four, Roomy, Made}
+use Rattle.load_laws.proofs.Acts.{four, Made}
 
 -- the lines behind the first one, up to the reporters; the records' controls are those of number p
 abbrev pub opening : ℕ → List (List (List ℕ))

@@ -1,12 +1,12 @@
 -- The script of each load is accepted.
-use Rattle.std.proofs.Common.{◌≡◌, ℕ, ◌+◌, ◌≤◌, List, [], ◌∷◌, ◌++◌, rules, Result, Ok, IsOk, codes, refl, sym, subst, ap, ◌∙◌, arith, append_assoc, if◌then◌else◌}
+use Rattle.std.proofs.Common.{◌≡◌, ℕ, ◌≤◌, List, [], ◌∷◌, ◌++◌, rules, Result, Ok, IsOk, codes, refl, sym, ap, ◌∙◌, arith, append_assoc, if◌then◌else◌}
 use Rattle.ras_text.specs.Numbers.{number, value_in}
 use Rattle.ras_text.specs.Pieces.{lines}
 use Rattle.board_plan.specs.declared.plan.LineFault.{LineFault}
 use Rattle.board_plan.specs.Words.{◌>>=◌, is, any_number, number_upto, number_from_1_to}
 use Rattle.board_plan.specs.Script.{Half, bare_board, version_of, board_of, versioned, board, is_passed, at_line, follow, begin, script}
 use Rattle.board_plan.specs.Canonical.{line_text, lines_text}
-use Rattle.board_script.proofs.Texts.{ArePlain, Makes, line_again, words_again, follow_makes}
+use Rattle.board_script.proofs.Texts.{ArePlain, line_again, words_again, follow_makes}
 use Rattle.board_load.specs.Load as load
 use Rattle.load_laws.proofs.Acts.{Made, all_made, both_made}
 use Rattle.load_laws.proofs.Opening.{opening, opening_made}
