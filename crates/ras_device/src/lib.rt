@@ -1,6 +1,8 @@
-//! What a reporter does: the errors and raised events that come to a board from outside.
+//! What a reporter does: the errors and raised events that come to a board from outside, and the devices that give them.
 #![tactic(auto)]
 
 mod act;
+mod device;
 
 pub use act::Act;
+pub use device::{ErrorDevice, Silent};

@@ -1,0 +1,2 @@
+-- What a device still has to give.
+pub mod Acts
