@@ -2,7 +2,6 @@
 #![tactic(auto)]
 
 mod bank_lines;
-mod brief;
 mod fields;
 mod hart_lines;
 mod pages;
@@ -12,5 +11,4 @@ mod run_texts;
 mod walks;
 mod writes;
 
-pub use brief::report_brief;
 pub use reports::{report, trace};

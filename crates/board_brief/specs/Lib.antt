@@ -1,2 +1,0 @@
--- A board that keeps no notes, as what was played on it.
-pub mod Inside
