@@ -1,8 +1,8 @@
 #!/usr/bin/env python3
 """Plays random scripts with a program, and compares output, exit status and standard error with those of board_model.py.
 
-The words are those of each command; `load` has its own script and leaves the random one unread. Scripts are of both versions; some are hostile: wild calls, ops in user mode, addresses outside memory, strays, lines that are
-refused. It is outside the gate.
+Each command has its turn; `load` leaves the random script unread. Scripts are of both versions; some are hostile: wild calls,
+ops in user mode, addresses outside memory, strays, lines that are refused. It is outside the gate.
 usage: checks/random_boards.py [--program P] [COUNT [FIRST]]   (1000 scripts from number 0 by default; a number always gives the
 same script)
 """
