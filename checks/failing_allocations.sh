@@ -1,7 +1,8 @@
 #!/bin/sh
 # Plays scripts with each of their allocations failing in turn: the program must end as out of memory, with nothing written,
 # until a number is reached that no allocation has; then it must print what it prints with ample memory. Not part of the gate.
-# usage: checks/failing_allocations.sh [SCRIPT..]   (without scripts: the examples and the script with everything)
+# usage: checks/failing_allocations.sh [SCRIPT..]   (without scripts: the examples and the script with everything; a load
+# is played after them)
 set -eu
 cd "$(dirname "$0")/.."
 program=${RASBOARD:-crates/board_prog/out/board_prog}
@@ -32,5 +33,6 @@ each_fails() {
 }
 
 for script; do
-    for words in "play" "play --trace" "play --short" "move"; do each_fails "$words" "$script"; done
+    for words in "play" "play --trace" "play --short" "pages 1" "move"; do each_fails "$words" "$script"; done
 done
+each_fails "load 7" /dev/null

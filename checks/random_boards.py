@@ -1,8 +1,8 @@
 #!/usr/bin/env python3
 """Plays random scripts with a program, and compares output, exit status and standard error with those of board_model.py.
 
-Scripts are of both versions; some are hostile: wild calls, ops in user mode, addresses outside memory, strays, lines that are
-refused. It is outside the gate.
+Each command has its turn; `load` leaves the random script unread. Scripts are of both versions; some are hostile: wild calls,
+ops in user mode, addresses outside memory, strays, lines that are refused. It is outside the gate.
 usage: checks/random_boards.py [--program P] [COUNT [FIRST]]   (1000 scripts from number 0 by default; a number always gives the
 same script)
 """
@@ -16,7 +16,7 @@ import board_model
 TOP = pathlib.Path(__file__).resolve().parent.parent
 LOCAL = [0x0, 0x10000, 0x100000, 0xFFFF0000, 0x4000, 0x14000]
 GLOBAL = [0x8000, 0x108000, 0xFFFF8000, 0xC000]
-COMMANDS = [["play", "--trace"]] * 5 + [["play"], ["play", "--short"], ["move"]]
+COMMANDS = [["play", "--trace"]] * 5 + [["play"], ["play", "--short"], ["move"], ["pages", "1"], ["pages", "0002"], ["load"]]
 
 
 class Writer:
@@ -198,6 +198,8 @@ def main():
     for number in range(first, first + count):
         text = Writer(number).script()
         words = COMMANDS[number % len(COMMANDS)]
+        if words == ["load"]:
+            words = ["load", str(number % 1001)]
         wanted = board_model.command(words, text)
         got = subprocess.run([program, *words], input=text, capture_output=True)
         if (got.stdout.decode(), got.returncode, got.stderr.decode()) != wanted:

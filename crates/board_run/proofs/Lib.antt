@@ -1,4 +1,7 @@
 -- Lemmas on what is written.
+pub mod Copies
 pub mod Joined
+pub mod Listing
+pub mod Loads
 pub mod Moved
 pub mod Written

@@ -1,5 +1,5 @@
 -- What was written of a moved plan is the move of its text.
-use Rattle.std.proofs.Common.{◌≡◌, ℕ, List, Ok, Err, Option, ap, subst}
+use Rattle.std.proofs.Common.{◌≡◌, ℕ, List, [], Ok, Err, Result, Option, sym, ap, subst}
 use Rattle.ras_io.specs.Causes.{Puts}
 use Rattle.ras_io.specs.declared.faults.SinkFault.{SinkFault}
 use Rattle.board_plan.specs.declared.plan.Plan.{Plan}
@@ -9,7 +9,9 @@ use Rattle.board_script.specs.Again.{IsReadWhenMoved}
 use Rattle.move_laws.specs.Moves.{GathersByVersion}
 use Rattle.move_laws.proofs.Reports.{runs_kept, traces_kept, tries_kept, acts_kept, reports_kept}
 use Rattle.board_run.specs.declared.command.Command.TheVariants.{Move}
-use Rattle.board_run.specs.Play.{IsMove, WritesOutput, WritesFront}
+use Rattle.board_run.specs.declared.status.Status.{Status}
+use Rattle.board_run.specs.Play.{IsMove}
+use Rattle.board_run.specs.Parts.{Wrote, status_of}
 
 move_is : (plan new : Plan) (text : List ℕ) → GathersByVersion plan → new ≡ moved plan → IsReadWhenMoved plan new →
     Reads text plan → IsMove text (canonical new)
@@ -26,15 +28,13 @@ move_is plan new text g is again e =
       same_reports = reports_kept plan g;
     }
 
-module _ (plan new : Plan) (before after : Option (List ℕ)) where
-  pub move_whole : (u : Unit {0}) → GathersByVersion plan → new ≡ moved plan → IsReadWhenMoved plan new →
-      Puts {E = SinkFault} before after (Ok u) (canonical new) →
-      (text : List ℕ) → Reads text plan → WritesOutput Move text before after
-  move_whole u g is again p text e =
-      record { bytes = canonical new; is_output = move_is plan new text g is again e; appended = p.all }
-
-  pub move_front : (fault : SinkFault) → GathersByVersion plan → new ≡ moved plan → IsReadWhenMoved plan new →
-      Puts {T = Unit {0}} before after (Err fault) (canonical new) →
-      (text : List ℕ) → Reads text plan → WritesFront Move text before after
-  move_front fault g is again p text e =
-      record { bytes = canonical new; is_output = move_is plan new text g is again e; appended = p.front }
+-- the canonical text of a moved plan was written for each text of the plan: all of it, or a front
+pub move_wrote : (plan new : Plan) (before after : Option (List ℕ)) (r : Result (Unit {0}) SinkFault) (status : Status)
+    → GathersByVersion plan → new ≡ moved plan → IsReadWhenMoved plan new → status ≡ status_of r
+    → Puts before after r (canonical new) → Wrote Move [] plan before after status
+move_wrote plan new before after (Ok u) status g is again ended p =
+    subst (Wrote Move [] plan before after) (sym ended) (λ text e.
+    record { bytes = canonical new; is_output = move_is plan new text g is again e; appended = p.all })
+move_wrote plan new before after (Err fault) status g is again ended p =
+    subst (Wrote Move [] plan before after) (sym ended) (λ text e.
+    record { bytes = canonical new; is_output = move_is plan new text g is again e; appended = p.front })

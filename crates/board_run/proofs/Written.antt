@@ -1,7 +1,5 @@
 -- What was written of a played board is what is shown of the play of its plan's text.
-use Rattle.std.proofs.Common.{◌≡◌, ℕ, List, [], Ok, Err, Result, Option, refl, ap, ◌∙◌}
-use Rattle.ras_io.specs.Causes.{Puts}
-use Rattle.ras_io.specs.declared.faults.SinkFault.{SinkFault}
+use Rattle.std.proofs.Common.{◌≡◌, ℕ, List, [], Option, refl, ap, ◌∙◌}
 use Rattle.ras_device.specs.declared.act.Act.{Act}
 use Rattle.board_plan.specs.declared.notes.Step.{Step}
 use Rattle.board_plan.specs.declared.plan.Plan.{Plan}
@@ -14,20 +12,24 @@ use Rattle.board_core.specs.Played.{AreListsReports, Played, own_run}
 use Rattle.board_play.specs.Played.{IsRunOf}
 use Rattle.board_report.specs.Reports.{full_bytes, short_bytes, trace_bytes}
 use Rattle.board_run.specs.declared.command.Shown.{Shown}
-use Rattle.board_run.specs.declared.command.Shown.TheVariants.{Full, Traced, Short}
-use Rattle.board_run.specs.declared.command.Command.TheVariants.{Play}
-use Rattle.board_run.specs.Play.{shown, IsReport, WritesOutput, WritesFront}
-use Rattle.board_run.specs.Parts.{shown_bytes}
+use Rattle.board_run.specs.declared.command.Shown.TheVariants.{Full, Traced, Short, Pages}
+use Rattle.board_run.specs.declared.command.Command.TheVariants.{Play, Load}
+use Rattle.board_run.specs.declared.status.Status.{Status}
+use Rattle.board_run.specs.declared.status.Status.TheVariants as answers
+use Rattle.board_run.specs.Retired.{retired}
+use Rattle.board_run.specs.Play.{shown, IsReport}
+use Rattle.board_run.specs.Parts.{shown_bytes, Writes, Wrote}
 
 shown_is : (what : Shown) (plan : Plan) (acts : ℕ → List Act) (tries : List Step) →
     shown_bytes what plan (ran plan acts tries) ≡ shown what plan acts tries
-unfolding full short trace full_bytes short_bytes trace_bytes
+unfolding full short trace retired full_bytes short_bytes trace_bytes
 shown_is Full plan acts tries = refl
 shown_is Traced plan acts tries = refl
 shown_is Short plan acts tries = refl
+shown_is (Pages threshold) plan acts tries = refl
 
 report_is : (what : Shown) (plan : Plan) (b : Played) (text : List ℕ) → IsPlan plan → AreListsReports plan →
-    IsRunOf plan b → Reads text plan → IsReport what text (shown_bytes what b.plan (own_run b))
+    IsRunOf plan b → Reads text plan → IsReport what [] text (shown_bytes what b.plan (own_run b))
 report_is what plan b text is reports r e =
     record {
       plan = plan;
@@ -39,24 +41,37 @@ report_is what plan b text is reports r e =
       safe = run_is_safe plan (lists plan []) r.tries is reports;
     }
 
-pub play_whole : (what : Shown) (plan : Plan) (b : Played) (old new : Option (List ℕ)) (u : Unit {0}) →
-    IsPlan plan → AreListsReports plan → IsRunOf plan b →
-    Puts {E = SinkFault} old new (Ok u) (shown_bytes what b.plan (own_run b)) →
-    (text : List ℕ) → Reads text plan → WritesOutput (Play what) text old new
-play_whole what plan b old new u is reports r p text e =
-    record {
+-- what a played board shows was written for each text of its plan: all of it, a front of it, or nothing
+pub play_wrote : (what : Shown) (plan : Plan) (b : Played) (old new : Option (List ℕ)) (status : Status)
+    → IsPlan plan → AreListsReports plan → IsRunOf plan b
+    → Writes (shown_bytes what b.plan (own_run b)) old new status → Wrote (Play what) [] plan old new status
+play_wrote what plan b old new answers.Ok is reports r w =
+    λ text e. record {
       bytes = shown_bytes what b.plan (own_run b);
       is_output = report_is what plan b text is reports r e;
-      appended = p.all;
+      appended = w;
     }
+play_wrote what plan b old new answers.WriteFault is reports r w =
+    λ text e. record {
+      bytes = shown_bytes what b.plan (own_run b);
+      is_output = report_is what plan b text is reports r e;
+      appended = w;
+    }
+play_wrote what plan b old new answers.NoMemory is reports r w = w
+play_wrote what plan b old new answers.Usage is reports r w = w
+play_wrote what plan b old new answers.ReadFault is reports r w = w
+play_wrote what plan b old new answers.TooLong is reports r w = w
+play_wrote what plan b old new (answers.BadScript line kind) is reports r w = w
 
-pub play_front : (what : Shown) (plan : Plan) (b : Played) (old new : Option (List ℕ)) (fault : SinkFault) →
-    IsPlan plan → AreListsReports plan → IsRunOf plan b →
-    Puts {T = Unit {0}} old new (Err fault) (shown_bytes what b.plan (own_run b)) →
-    (text : List ℕ) → Reads text plan → WritesFront (Play what) text old new
-play_front what plan b old new fault is reports r p text e =
-    record {
-      bytes = shown_bytes what b.plan (own_run b);
-      is_output = report_is what plan b text is reports r e;
-      appended = p.front;
-    }
+-- a load's output is the short report of its script
+pub load_wrote : (n : ℕ) (plan : Plan) (old new : Option (List ℕ)) (status : Status)
+    → Wrote (Play Short) [] plan old new status → Wrote (Load n) [] plan old new status
+load_wrote n plan old new answers.Ok w =
+    λ text e. let o = w text e in record { bytes = o.bytes; is_output = o.is_output; appended = o.appended }
+load_wrote n plan old new answers.WriteFault w =
+    λ text e. let o = w text e in record { bytes = o.bytes; is_output = o.is_output; appended = o.appended }
+load_wrote n plan old new answers.NoMemory w = w
+load_wrote n plan old new answers.Usage w = w
+load_wrote n plan old new answers.ReadFault w = w
+load_wrote n plan old new answers.TooLong w = w
+load_wrote n plan old new (answers.BadScript line kind) w = w

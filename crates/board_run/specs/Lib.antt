@@ -1,3 +1,5 @@
 -- What the top call promises, and what its own parts say.
+pub mod Commands
+pub mod Retired
 pub mod Play
 pub mod Parts

@@ -1,6 +1,5 @@
 -- What the top call promises, one definition a promise. This project's own, over the board book.
-use Rattle.std.specs.Prelude.{◌≡◌, ◌⊎◌, ℕ, nat_lt, Bool, true, false, if◌then◌else◌, List, [], ◌∷◌, ◌++◌, length, Option, Some, None, Result, Ok, Err, codes, bytes_eq}
-use Rattle.std.specs.Borrow.{Bor}
+use Rattle.std.specs.Prelude.{◌≡◌, ◌⊎◌, ℕ, nat_lt, Bool, true, false, if◌then◌else◌, List, ◌++◌, length, Option, Result, Ok, Err}
 use Rattle.std.specs.Io.KnownBytes.{Appends}
 use Rattle.ras_io.specs.Causes.{AppendsFront}
 use Rattle.ras_device.specs.declared.act.Act.{Act}
@@ -13,33 +12,13 @@ use Rattle.board_plan.specs.Text.{full, short, trace}
 use Rattle.move_laws.specs.Moves.{AreRunsKept, AreTracesKept, AreTriesKept, AreActsKept, AreReportsKept}
 use Rattle.board_laws.specs.Safe.{IsRunSafe}
 use Rattle.board_run.specs.declared.command.Shown.{Shown}
-use Rattle.board_run.specs.declared.command.Shown.TheVariants.{Full, Traced, Short}
+use Rattle.board_run.specs.declared.command.Shown.TheVariants.{Full, Traced, Short, Pages}
 use Rattle.board_run.specs.declared.command.Command.{Command}
-use Rattle.board_run.specs.declared.command.Command.TheVariants.{Play, Move}
+use Rattle.board_run.specs.declared.command.Command.TheVariants.{Play, Load, Move}
 use Rattle.board_run.specs.declared.status.Status.{Status}
 use Rattle.board_run.specs.declared.status.Status.TheVariants as answers
-
--- ---- Words ----
-
--- what may stand behind `play`
-abbrev pub option_of : List ℕ → Option Command
-option_of word =
-    if bytes_eq word (codes "--trace") then Some (Play Traced)
-    else (if bytes_eq word (codes "--short") then Some (Play Short)
-    else None)
-
--- the command that these words name; all others are no command
-abbrev pub command_of : List (Bor (List ℕ)) → Option Command
-command_of (name ∷ []) =
-    if bytes_eq name.now (codes "play") then Some (Play Full)
-    else (if bytes_eq name.now (codes "move") then Some Move
-    else None)
-command_of (name ∷ option ∷ []) = if bytes_eq name.now (codes "play") then option_of option.now else None
-command_of words = None
-
--- the longest input that is read, in bytes
-abbrev pub limit : ℕ
-limit = 1048576
+use Rattle.board_run.specs.Commands.{limit}
+use Rattle.board_run.specs.Retired.{retired}
 
 -- ---- What a command writes ----
 
@@ -48,16 +27,18 @@ abbrev pub shown : Shown → Plan → (ℕ → List Act) → List Step → List 
 shown Full plan acts tries = full plan acts tries
 shown Traced plan acts tries = trace plan acts tries ++ full plan acts tries
 shown Short plan acts tries = short plan acts tries
+shown (Pages threshold) plan acts tries = retired threshold plan acts tries
 
 -- The bytes show the play of a text: it reads as a plan, the plan makes these tries, where its reporters have the acts
--- that it lists, and the bytes are what is shown of that run. And the run is safe.
-pub record IsReport (what : Shown) (text bytes : List ℕ) : Type 0 where
+-- that it lists and those of the devices that it names, and the bytes are what is shown of that run. And the run is
+-- safe.
+pub record IsReport (what : Shown) (devices : List (List Act)) (text bytes : List ℕ) : Type 0 where
   pub plan : Plan
   pub tries : List Step
   pub reads : Reads text plan
-  pub are_tries : AreTries plan (lists plan []) tries
-  pub report : bytes ≡ shown what plan (lists plan []) tries
-  pub safe : IsRunSafe plan (lists plan []) tries
+  pub are_tries : AreTries plan (lists plan devices) tries
+  pub report : bytes ≡ shown what plan (lists plan devices) tries
+  pub safe : IsRunSafe plan (lists plan devices) tries
 
 -- The bytes are a text in version 2's form: it reads as a plan, the bytes are the canonical text of that plan once it
 -- is moved, and they read as the moved plan. That one makes the same tries and runs, and its reporters have the same
@@ -73,21 +54,22 @@ pub record IsMove (text bytes : List ℕ) : Type 0 where
   pub same_traces : AreTracesKept plan
   pub same_reports : AreReportsKept plan
 
--- the bytes that a command writes for a text
-abbrev pub IsOutput : Command → List ℕ → List ℕ → Type 0
-IsOutput (Play what) text bytes = IsReport what text bytes
-IsOutput Move text bytes = IsMove text bytes
+-- the bytes that a command writes for its script, where the devices have these acts
+abbrev pub IsOutput : Command → List (List Act) → List ℕ → List ℕ → Type 0
+IsOutput (Play what) devices text bytes = IsReport what devices text bytes
+IsOutput (Load n) devices text bytes = IsReport Short devices text bytes
+IsOutput Move devices text bytes = IsMove text bytes
 
 -- they were appended to the sink
-pub record WritesOutput (command : Command) (text : List ℕ) (old new : Option (List ℕ)) : Type 0 where
+pub record WritesOutput (command : Command) (devices : List (List Act)) (text : List ℕ) (old new : Option (List ℕ)) : Type 0 where
   pub bytes : List ℕ
-  pub is_output : IsOutput command text bytes
+  pub is_output : IsOutput command devices text bytes
   pub appended : Appends old new bytes
 
 -- a front of them was
-pub record WritesFront (command : Command) (text : List ℕ) (old new : Option (List ℕ)) : Type 0 where
+pub record WritesFront (command : Command) (devices : List (List Act)) (text : List ℕ) (old new : Option (List ℕ)) : Type 0 where
   pub bytes : List ℕ
-  pub is_output : IsOutput command text bytes
+  pub is_output : IsOutput command devices text bytes
   pub appended : AppendsFront old new bytes
 
 -- ---- Answers ----
@@ -111,6 +93,13 @@ abbrev pub is_silent : Status → Bool
 is_silent answers.Ok = false
 is_silent answers.WriteFault = false
 is_silent status = true
+
+-- the answers that tell of a script that is read: a fault of its source, that it is too long, or that it is none
+abbrev pub is_of_source : Status → Bool
+is_of_source answers.ReadFault = true
+is_of_source answers.TooLong = true
+is_of_source (answers.BadScript line kind) = true
+is_of_source status = false
 
 -- the answers that come only of a text within the limit
 abbrev pub is_of_text : Status → Bool

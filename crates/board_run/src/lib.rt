@@ -3,6 +3,7 @@
 
 mod command;
 mod outputs;
+mod pages;
 mod playing;
 mod status;
 

@@ -1,6 +1,6 @@
 //! What a command writes.
 
-ghost use Rattle.std.specs.Prelude.{◌≡◌, ℕ, List, true, false};
+ghost use Rattle.std.specs.Prelude.{◌≡◌, ℕ, List, [], true, false};
 ghost use Rattle.ras_io.specs.Causes.{HasCause, Puts, Rose};
 ghost use Rattle.board_plan.specs.Script.{Reads};
 ghost use Rattle.board_plan.specs.Canonical.{canonical, moved};
@@ -8,9 +8,10 @@ ghost use Rattle.board_plan.specs.Plans.{IsPlan};
 ghost use Rattle.move_laws.specs.Moves.{GathersByVersion};
 ghost use Rattle.board_core.specs.Played.{AreListsReports, own_run};
 ghost use Rattle.board_run.specs.Play.{is_silent, is_write_fault};
-ghost use Rattle.board_run.specs.Parts.{shown_bytes, Wrote};
+ghost use Rattle.board_run.specs.Parts.{shown_bytes, Writes, Wrote};
 
 use crate::command::{Command, Shown};
+use crate::pages::{status_of, write_pages};
 use crate::status::Status;
 use board_core::Board;
 use board_plan::Plan;
@@ -31,15 +32,18 @@ fn write_traced<K: Sink>(board: &Board, sink: &mut K) -> Result<(), SinkFault>
 }
 
 /// Writes what is shown of a board's run.
-fn write_shown<K: Sink>(board: &Board, what: Shown, sink: &mut K) -> Result<(), SinkFault>
-    ensures bytes { Puts (K.written sink.old) (K.written sink.new) result
-        (shown_bytes what board.now.plan (own_run board.now)) }
-    ensures cause { HasCause (K.faults sink.old) (K.faults sink.new) result }
+fn write_shown<K: Sink>(alloc: Global, what: Shown, board: &Board, sink: &mut K) -> Status
+    ensures wrote { Writes (shown_bytes what board.now.plan (own_run board.now)) (K.written sink.old)
+        (K.written sink.new) result }
+    ensures fault { result ≡ Status.WriteFault → Rose (K.faults sink.old) (K.faults sink.new) }
+    ensures kept { is_write_fault result ≡ false → K.faults sink.new ≡ K.faults sink.old }
+    ensures silent { is_silent result ≡ true → sink.new ≡ sink.old }
 {
     match what {
-        Shown::Full => report(board, false, sink),
-        Shown::Traced => write_traced(board, sink),
-        Shown::Short => report(board, true, sink),
+        Shown::Full => status_of(report(board, false, sink)),
+        Shown::Traced => status_of(write_traced(board, sink)),
+        Shown::Short => status_of(report(board, true, sink)),
+        Shown::Pages(threshold) => write_pages(alloc, threshold, board, sink),
     }
 }
 
@@ -47,7 +51,7 @@ fn write_shown<K: Sink>(board: &Board, what: Shown, sink: &mut K) -> Result<(), 
 fn write_play<K: Sink>(alloc: Global, what: Shown, plan: &Plan, sink: &mut K) -> Status
     requires plan { IsPlan plan.now }
     requires reports { AreListsReports plan.now }
-    ensures wrote { Wrote (Command.Play what) plan.now (K.written sink.old) (K.written sink.new) result }
+    ensures wrote { Wrote (Command.Play what) [] plan.now (K.written sink.old) (K.written sink.new) result }
     ensures fault { result ≡ Status.WriteFault → Rose (K.faults sink.old) (K.faults sink.new) }
     ensures kept { is_write_fault result ≡ false → K.faults sink.new ≡ K.faults sink.old }
     ensures silent { is_silent result ≡ true → sink.new ≡ sink.old }
@@ -55,25 +59,19 @@ fn write_play<K: Sink>(alloc: Global, what: Shown, plan: &Plan, sink: &mut K) ->
     let Ok(board) = play_plan(alloc, plan) else {
         return Status::NoMemory;
     };
-    match write_shown(&board, what, sink) {
-        Ok(()) => Status::Ok,
-        Err(_) => Status::WriteFault,
-    }
+    write_shown(alloc, what, &board, sink)
 }
 
 /// Moves a plan to version 2, and writes its canonical text.
 fn write_move<K: Sink>(mut plan: Plan, sink: &mut K) -> Status
     requires { GathersByVersion plan }
-    ensures wrote { Wrote Command.Move plan (K.written sink.old) (K.written sink.new) result }
+    ensures wrote { Wrote Command.Move [] plan (K.written sink.old) (K.written sink.new) result }
     ensures fault { result ≡ Status.WriteFault → Rose (K.faults sink.old) (K.faults sink.new) }
     ensures kept { is_write_fault result ≡ false → K.faults sink.new ≡ K.faults sink.old }
     ensures silent { is_silent result ≡ true → sink.new ≡ sink.old }
 {
     moved(&mut plan);
-    match write(&plan, sink) {
-        Ok(()) => Status::Ok,
-        Err(_) => Status::WriteFault,
-    }
+    status_of(write(&plan, sink))
 }
 
 /// Does with a plan what the command says, and writes its output. NoMemory comes before anything is written.
@@ -86,13 +84,14 @@ pub(crate) fn write_output<K: Sink>(
     requires plan { IsPlan plan }
     requires reports { AreListsReports plan }
     requires gathers { GathersByVersion plan }
-    ensures wrote { Wrote command plan (K.written sink.old) (K.written sink.new) result }
+    ensures wrote { Wrote command [] plan (K.written sink.old) (K.written sink.new) result }
     ensures fault { result ≡ Status.WriteFault → Rose (K.faults sink.old) (K.faults sink.new) }
     ensures kept { is_write_fault result ≡ false → K.faults sink.new ≡ K.faults sink.old }
     ensures silent { is_silent result ≡ true → sink.new ≡ sink.old }
 {
     match command {
         Command::Play(what) => write_play(alloc, what, &plan, sink),
+        Command::Load(_) => write_play(alloc, Shown::Short, &plan, sink),
         Command::Move => write_move(plan, sink),
     }
 }

@@ -15,7 +15,7 @@ pub enum Status {
     ReadFault,
     /// The sink failed; a front of what the command writes was written.
     WriteFault,
-    /// Memory is wanting. It comes before the first step, and nothing was written.
+    /// Memory is wanting, and nothing was written. It comes before the first step, but of `pages` also after the last.
     NoMemory,
     /// The input is longer than 1,048,576 bytes.
     TooLong,

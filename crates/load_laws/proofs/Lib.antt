@@ -2,3 +2,4 @@
 pub mod Acts
 pub mod Opening
 pub mod Whole
+pub mod Short

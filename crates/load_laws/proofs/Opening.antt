@@ -157,7 +157,7 @@ bank_same : (n bank : ℕ) → bank_lines n bank ≡ bank_lines (n % 2) bank
 unfolding bank_lines
 bank_same n bank = line_below_same (record_line n bank) (record_line (n % 2) bank) (record_same n bank) 4
 
-opening_same : (n : ℕ) → opening n ≡ opening (n % 2)
+pub opening_same : (n : ℕ) → opening n ≡ opening (n % 2)
 opening_same n =
     ap (λ t. drop 1 board_lines ++ (t ++ (lines_below hart_lines 4 ++ list_lines)))
     (lines_below_same (bank_lines n) (bank_lines (n % 2)) (bank_same n) 3)

@@ -17,7 +17,7 @@ unfolding load.lines_text load.line_text lines_text line_text
 texts_same [] = refl
 texts_same (ws ∷ wss) = ap (λ t. line_text ws ++ t) (texts_same wss)
 
-abbrev first : List (List ℕ)
+abbrev pub first : List (List ℕ)
 first = codes "board" ∷ codes "1" ∷ codes "4" ∷ []
 
 first_plain : ArePlain first
@@ -27,10 +27,10 @@ first_made : board first ≡ Ok (bare_board 1 4)
 unfolding board versioned version_of board_of is number_from_1_to number_upto any_number number value_in
 first_made = refl
 
-abbrev later : ℕ → List (List (List ℕ))
+abbrev pub later : ℕ → List (List (List ℕ))
 later n = opening n ++ load.lines_below (load.reporter_lines n) 4
 
-lines_are : (n : ℕ) → load.load_lines n ≡ first ∷ later n
+pub lines_are : (n : ℕ) → load.load_lines n ≡ first ∷ later n
 unfolding load.load_lines
 lines_are n =
     let recs = load.lines_below (load.bank_lines n) 3 in

@@ -1,13 +1,8 @@
--- Goals of `write_move` that the tactics leave open.
-use Rattle.board_run.proofs.Moved.{move_whole, move_front}
+-- The moved plan's text, for each text of the plan.
+use Rattle.board_run.proofs.Moved.{move_wrote}
 use Rattle.board_run.proofs.outputs.write_move.Goals as goal
-
-pub returns-in-Ok-clause-wrote : goal.returns-in-Ok-clause-wrote
-returns-in-Ok-clause-wrote g c =
-    move_whole c.args.plan c.moved.new.plan _ _ c.in-Ok.field-0 c.requires c.moved.ensures.moved c.moved.ensures.again
-    c.in-Ok.ensures.bytes
 
 pub returns-clause-wrote : goal.returns-clause-wrote
 returns-clause-wrote g c =
-    move_front c.args.plan c.moved.new.plan _ _ c.in-Err.field-0 c.requires c.moved.ensures.moved
-    c.moved.ensures.again c.in-Err.ensures.bytes
+    move_wrote c.args.plan c.moved.new.plan _ _ c.write.result c.status_of.result c.requires c.moved.ensures.moved
+    c.moved.ensures.again c.status_of.ensures c.write.ensures.bytes
