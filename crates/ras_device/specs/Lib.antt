@@ -1,2 +1,5 @@
--- What a device still has to give.
+-- What a device still has to give, and the lists of the devices.
 pub mod Acts
+pub mod Left
+pub mod Lists
+pub mod Reported

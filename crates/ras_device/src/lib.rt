@@ -3,6 +3,12 @@
 
 mod act;
 mod device;
+mod listed;
+mod scrubber;
+mod storm;
 
 pub use act::Act;
 pub use device::{ErrorDevice, Silent};
+pub use listed::Listed;
+pub use scrubber::Scrubber;
+pub use storm::Storm;
