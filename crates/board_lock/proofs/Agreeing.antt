@@ -1,5 +1,5 @@
 -- After a turn the workers have handed on just the acts that the board's reporters have made.
-use Rattle.std.proofs.Common.{◌≡◌, ◌≢◌, ℕ, ◌<◌, ◌==◌, ◌&&◌, not, Bool, true, false, cond, List, [], ◌∷◌, ◌++◌, length, set, get_or, slice_get, Option, Some, None, is_some, is_none, refl, sym, ap, ◌∙◌, subst, arith}
+use Rattle.std.proofs.Common.{◌≡◌, ◌≢◌, ℕ, ◌<◌, ◌==◌, ◌&&◌, not, Bool, true, false, cond, List, [], ◌∷◌, ◌++◌, length, set, slice_get, Option, Some, None, is_some, refl, sym, ap, ◌∙◌, subst, arith}
 use Rattle.std.specs.List.{position_or_len}
 use Rattle.std.proofs.lemmas.Bool.{cond-false}
 use Rattle.std.proofs.lemmas.Bool.Decides.{nat_tests}
@@ -9,12 +9,11 @@ use Rattle.std.proofs.lemmas.Option.{get_or_from_slice_get, same_Some, slice_get
 use Rattle.ras_device.specs.declared.act.Act.{Act}
 use Rattle.board_plan.specs.declared.notes.Step.{Step}
 use Rattle.board_plan.specs.declared.notes.Step.TheVariants.{Hart, Reporter}
-use Rattle.board_plan.specs.declared.plan.Reporter as plan_reporter
 use Rattle.board_plan.specs.declared.plan.Plan.{Plan}
 use Rattle.board_plan.specs.Step.{Stepped, hart_step, reporter_step, wants}
-use Rattle.board_core.specs.Played.{IsPlayed, Played, acts_of, after_act, after_hart_step, has_list, is_list, listed, state_of, with_act, with_step}
+use Rattle.board_core.specs.Played.{IsPlayed, Played, acts_of, after_act, after_hart_step, has_list, is_list, listed, state_of}
 use Rattle.board_lock.specs.Hand.{Hand, Stays, act_at_hand, board_after, hand_after, handed_act, moved, reporter_hand_after}
-use Rattle.board_lock.specs.Replaying.{Agrees, AreHired, IsActor, IsHired, is_same, worker_of}
+use Rattle.board_lock.specs.Replaying.{Agrees, AreHired, IsHired, is_same, worker_of}
 use Rattle.board_lock.proofs.Moving.{moves, stays_same}
 use Rattle.board_lock.proofs.Turning.{not_made, unwanted_none, wanted_acts}
 
@@ -68,6 +67,7 @@ other_acts (Reporter r) w b k other =
   where
     apart : k ≢ r
     apart e = let same : (r == k) ≡ true = grind (arith, nat_tests) in absurd (cc)
+
     go : (a : Option Act) (o : Option Stepped) → acts_of (after_act r b a o) k ≡ acts_of b k
     go None o = refl
     go (Some a) None = refl
@@ -80,6 +80,7 @@ own_acts r w b low device handed = go (wants b.plan r (state_of b)) refl
   where
     act : handed_act w b r ≡ act_at_hand w
     act = cond-false (is_list b.plan r) (listed b r) (act_at_hand w) device
+
     some : (a : Option Act) → act_at_hand w ≡ a → (o : Option Stepped) → reporter_step r b.plan a (state_of b) ≡ o
         → wants b.plan r (state_of b) ≡ true → (moved w).handed ≡ acts_of (after_act r b a o) r
     some None is o made wanted = ap (λ (v : Hand). v.handed) ((moves w).none is) ∙ handed
@@ -87,6 +88,7 @@ own_acts r w b low device handed = go (wants b.plan r (state_of b)) refl
     some (Some a) is (Some d) made wanted =
         (moves w).some a is ∙ ap (λ (xs : List Act). xs ++ a ∷ []) handed
         ∙ sym (get_or-set_same b.acts r (acts_of b r ++ a ∷ []) [] low)
+
     go : (q : Bool) → wants b.plan r (state_of b) ≡ q
         → (reporter_hand_after w b r).handed ≡ acts_of (board_after (Reporter r) w b) r
     go true wanted =

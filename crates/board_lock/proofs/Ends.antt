@@ -1,8 +1,7 @@
 -- A replayed board is a whole run of its plan.
-use Rattle.std.proofs.Common.{◌≡◌, ℕ, zero, suc, ◌<◌, ◌≤◌, Bool, true, false, List, [], ◌∷◌, ◌++◌, map, length, take, get_or, slice_get, Option, Some, None, is_some, is_none, refl, inl, inr, sym, ap, ◌∙◌, subst, arith}
+use Rattle.std.proofs.Common.{◌≡◌, ℕ, zero, suc, ◌<◌, ◌≤◌, Bool, true, false, List, [], ◌∷◌, ◌++◌, length, take, get_or, slice_get, Option, Some, None, is_some, is_none, refl, inl, inr, sym, ap, ◌∙◌, arith}
 use Rattle.std.proofs.lemmas.Bool.{cases_lt}
-use Rattle.std.proofs.lemmas.Option.{none-some, slice_get_past}
-use Rattle.reri_fields.specs.declared.report.Report.{Report}
+use Rattle.std.proofs.lemmas.Option.{none-some}
 use Rattle.ras_device.specs.declared.act.Act.{Act}
 use Rattle.ras_device.specs.declared.act.Act.TheVariants as act
 use Rattle.ras_device.specs.Acts.{HasReports, Remaining}
@@ -12,11 +11,11 @@ use Rattle.board_plan.specs.declared.plan.Reporter as plan_reporter
 use Rattle.board_plan.specs.declared.plan.Plan.{Plan}
 use Rattle.board_plan.specs.Plans.{AreReports, IsPlan}
 use Rattle.board_plan.specs.Step.{step}
-use Rattle.board_plan.specs.Run.{IsWhole, Ran, acts_from, lists, ran, steps_of}
+use Rattle.board_plan.specs.Run.{Ran, acts_from, lists, ran, steps_of}
 use Rattle.board_laws.proofs.Safe.{run_is_safe}
 use Rattle.board_core.specs.Played.{AreListsReports, IsPlayed, Played, acts_of, own_run, state_of}
-use Rattle.board_core.proofs.Going.{Longer, ran_longer}
-use Rattle.board_lock.specs.Hand.{Hand, whole}
+use Rattle.board_core.proofs.Going.{ran_longer}
+use Rattle.board_lock.specs.Hand.{Hand}
 use Rattle.board_lock.specs.Hiring.{IsWholeRun, left_in}
 use Rattle.board_lock.specs.Replaying.{Agrees, Replays, worker_of}
 
@@ -48,6 +47,7 @@ begins acts c ws r k a played agrees made =
         nothing [] r past = refl
         nothing (x ∷ all) zero past = absurd (omega (arith, past))
         nothing (x ∷ all) (suc r) past = nothing all r (omega (arith, past))
+
     by_worker : (d : plan_reporter.Reporter) → slice_get c.plan.reporters r ≡ Some d → is_none d.device ≡ false
         → (o : Option Hand) → worker_of (Reporter r) ws ≡ o → is_some o ≡ true → slice_get (acts r) k ≡ Some a
     by_worker d declared device None found has = absurd (cc)
@@ -55,6 +55,7 @@ begins acts c ws r k a played agrees made =
         ap (λ (xs : List Act). slice_get xs k) (sym (agrees.hired.devices r d w declared device found).acts)
         ∙ front_get w.handed (w.kept ++ w.left) k a
         (ap (λ (xs : List Act). slice_get xs k) (agrees.handed r d w declared device found) ∙ made)
+
     by_kind : (d : plan_reporter.Reporter) → slice_get c.plan.reporters r ≡ Some d → r < length c.plan.reporters
         → (q : Bool) → is_none d.device ≡ q → slice_get (acts r) k ≡ Some a
     by_kind d declared low true is =
@@ -63,6 +64,7 @@ begins acts c ws r k a played agrees made =
         (ap (λ (xs : List Act). slice_get xs k) (sym (played.listed r d declared is)) ∙ made)
     by_kind d declared low false is =
         by_worker d declared is (worker_of (Reporter r) ws) refl (agrees.hired.has (Reporter r) low)
+
     on_board : (o : Option plan_reporter.Reporter) → slice_get c.plan.reporters r ≡ o → r < length c.plan.reporters
         → slice_get (acts r) k ≡ Some a
     on_board None none low = absurd (past_none c.plan.reporters r none low)

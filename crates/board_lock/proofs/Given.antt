@@ -1,7 +1,6 @@
 -- The acts that a device gives are reports.
-use Rattle.std.proofs.Common.{◌≡◌, ℕ, zero, suc, ◌<◌, List, [], ◌∷◌, ◌++◌, slice_get, Option, Some, None, sym, ap, ◌∙◌}
+use Rattle.std.proofs.Common.{◌≡◌, ℕ, zero, suc, List, [], ◌∷◌, ◌++◌, slice_get, Some, ap, ◌∙◌}
 use Rattle.std.proofs.lemmas.Option.{none-some}
-use Rattle.reri_fields.specs.declared.report.Report.{Report}
 use Rattle.ras_device.specs.declared.act.Act.{Act}
 use Rattle.ras_device.specs.declared.act.Act.TheVariants as act
 use Rattle.ras_device.specs.Acts.{HasReports, Remaining}

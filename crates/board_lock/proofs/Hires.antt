@@ -1,5 +1,5 @@
 -- The workers that are hired for a plan, and what stays of them.
-use Rattle.std.proofs.Common.{◌≡◌, ◌≢◌, ℕ, zero, suc, ◌+◌, ◌<◌, ◌≤◌, ◌==◌, Bool, true, false, cond, List, [], ◌∷◌, ◌++◌, map, length, get_or, slice_get, Option, Some, None, is_some, is_none, refl, sym, ap, ◌∙◌, subst, append_assoc, arith}
+use Rattle.std.proofs.Common.{◌≡◌, ◌≢◌, ℕ, zero, suc, ◌+◌, ◌<◌, ◌≤◌, ◌==◌, Bool, true, false, cond, List, [], ◌∷◌, map, length, get_or, slice_get, Option, Some, None, is_some, is_none, refl, sym, ap, ◌∙◌, subst, append_assoc, arith}
 use Rattle.std.specs.List.{find, range_with_len}
 use Rattle.std.specs.Option.{option_or}
 use Rattle.std.proofs.lemmas.Bool.Decides.{nat_tests}
@@ -11,7 +11,7 @@ use Rattle.board_plan.specs.declared.notes.Step.TheVariants.{Hart, Reporter}
 use Rattle.board_plan.specs.declared.plan.Reporter as plan_reporter
 use Rattle.board_plan.specs.declared.plan.Plan.{Plan}
 use Rattle.board_plan.specs.Run.{acts_from, lists}
-use Rattle.board_core.specs.Played.{Played, acts_of, fresh}
+use Rattle.board_core.specs.Played.{Played, fresh}
 use Rattle.board_lock.specs.Hand.{EachStays, Hand, Stays, hart_hand, rewound}
 use Rattle.board_lock.specs.Hiring.{device_acts, hand_for, hired, reporter_hand}
 use Rattle.board_lock.specs.Replaying.{Agrees, AreHired, IsActor, IsHired, is_same, worker_of}
@@ -132,6 +132,7 @@ was_there t (x ∷ us) (y ∷ vs) v each found =
   where
     test : by t x ≡ by t y
     test = ap (λ a. is_same a t) (sym each.0.actor)
+
     go : (q : Bool) → by t y ≡ q → cond q (Some y) (find (by t) vs) ≡ Some v
         → (worker_of t vs ≡ Some v → Was t us v) → Was t (x ∷ us) v
     go true is found later =
@@ -192,7 +193,8 @@ rewound_handed t (x ∷ ws) w found = go (by t (rewound x)) found (rewound_hande
 abbrev nothing : List Act
 nothing = []
 
-no_acts : (rs : List plan_reporter.Reporter) (r : ℕ) → get_or (map (λ (x : plan_reporter.Reporter). nothing) rs) r [] ≡ []
+no_acts : (rs : List plan_reporter.Reporter) (r : ℕ)
+    → get_or (map (λ (x : plan_reporter.Reporter). nothing) rs) r [] ≡ []
 no_acts [] r = refl
 no_acts (x ∷ rs) zero = refl
 no_acts (x ∷ rs) (suc r) = no_acts rs r

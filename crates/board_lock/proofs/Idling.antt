@@ -59,6 +59,7 @@ idle_hand b w (Reporter r) idle = go (reporter_idle b w r idle)
     kept true list none = refl
     kept false device none =
         (moves w).none (sym (cond-false (is_list b.plan r) (listed b r) (act_at_hand w) device) ∙ none)
+
     go : (wants b.plan r (state_of b) ≡ false) ⊎ (handed_act w b r ≡ None) → hand_after (Reporter r) w b ≡ w
     go (inl unwanted) = ap (λ q. cond (q && not (is_list b.plan r)) (moved w) w) unwanted
     go (inr none) =

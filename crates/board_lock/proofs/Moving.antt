@@ -1,5 +1,5 @@
 -- What is at hand when an act was handed on.
-use Rattle.std.proofs.Common.{◌≡◌, ℕ, ◌<◌, nat_lt, Bool, true, false, List, [], ◌∷◌, ◌++◌, length, slice_get, Option, Some, None, refl, sym, ap, ◌∙◌, append_assoc, arith}
+use Rattle.std.proofs.Common.{◌≡◌, ◌<◌, nat_lt, Bool, true, false, List, [], ◌∷◌, ◌++◌, length, slice_get, Option, Some, None, refl, sym, ap, ◌∙◌, append_assoc, arith}
 use Rattle.std.proofs.lemmas.Bool.{cond-true}
 use Rattle.std.proofs.lemmas.Bool.Decides.{nat_tests}
 use Rattle.std.specs.Prelude.{if◌then◌else◌}
@@ -74,10 +74,12 @@ moves w = go w.kept refl
     ask : (left : List Act) → w.kept ≡ [] → w.left ≡ left → Moves w (asked w left) (first_of left)
     ask [] none is = moves_none w
     ask (a ∷ rest) none is = moves_left w a rest none is
+
     below : (q : Bool) → w.kept ≡ []
         → Moves w (if q then asked w w.left else w) (if q then first_of w.left else None)
     below true none = ask w.left none refl
     below false none = moves_none w
+
     go : (kept : List Act) → w.kept ≡ kept → Moves w (moved_by w kept) (next_of w kept)
     go [] is = below (nat_lt (length w.handed) w.limit) is
     go (a ∷ more) is = moves_kept w a more is

@@ -49,7 +49,8 @@ pub next_hand : (plan : Plan) (r : ℕ) (old new : List (List Act)) (d : plan_re
     → slice_get plan.reporters r ≡ Some d → IsKept plan r old new → w ≡ hand_for new r (Some d)
     → w ≡ reporter_hand plan old r
 next_hand plan r old new d w declared kept is =
-    is ∙ ap (λ (acts : List Act). record (hand_for new r (Some d)) { left = acts }) (kept.kept r d (omega arith) declared)
+    is ∙ ap (λ (acts : List Act). record (hand_for new r (Some d)) { left = acts })
+    (kept.kept r d (omega arith) declared)
     ∙ ap (hand_for old r) (sym declared)
 
 -- one worker more
@@ -65,8 +66,8 @@ hired_more plan devices before hands more r w are is added =
     (sym (map-range_with_len_more (reporter_hand plan devices) 0 r r (omega arith)))
 
 -- a device is taken
-pub taken : {X : Type 0} (f : X → List Act) (xs : List X) (device : Option ℕ) (n k : ℕ) (y : X) → device ≡ Some n → k ≡ n
-    → f y ≡ [] → map f (set xs k y) ≡ without_device (map f xs) device
+pub taken : {X : Type 0} (f : X → List Act) (xs : List X) (device : Option ℕ) (n k : ℕ) (y : X) → device ≡ Some n
+    → k ≡ n → f y ≡ [] → map f (set xs k y) ≡ without_device (map f xs) device
 taken f xs device n k y is same empty =
     map-set f xs k y ∙ ap (set (map f xs) k) empty ∙ ap (λ (i : ℕ). without_device (map f xs) (Some i)) same
     ∙ ap (without_device (map f xs)) (sym is)

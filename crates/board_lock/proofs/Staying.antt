@@ -26,11 +26,10 @@ pub each_at : {W : Type 0} (f : W → Hand) (xs ys : List W) → length ys ≡ l
     → ((k : ℕ) (d : W) → k < length xs → Stays (f (get_or xs k d)) (f (get_or ys k d)))
     → EachStays (map f xs) (map f ys)
 each_at f [] [] many each = tt
-each_at f (x ∷ xs) (y ∷ ys) many each =
-    (
-      each 0 x (omega arith),
-      each_at f xs ys (omega (arith, many)) (λ k d low. each (suc k) d (omega (arith, low))),
-    )
+each_at f (x ∷ xs) (y ∷ ys) many each = (
+  each 0 x (omega arith),
+  each_at f xs ys (omega (arith, many)) (λ k d low. each (suc k) d (omega (arith, low))),
+)
 each_at f [] (y ∷ ys) many each = absurd (omega (arith, many))
 each_at f (x ∷ xs) [] many each = absurd (omega (arith, many))
 

@@ -1,5 +1,5 @@
 -- Tries one after another, each by the worker of its actor, and rounds of them.
-use Rattle.std.proofs.Common.{◌≡◌, ℕ, zero, suc, ◌+◌, ◌<◌, ◌≤◌, ◌||◌, not, Bool, true, false, cond, List, [], ◌∷◌, ◌++◌, map, length, take, set, get_or, slice_get, nat_lt, Option, Some, None, is_some, refl, inl, inr, sym, ap, ◌∙◌, subst, append_assoc, append-nil, length-append, arith}
+use Rattle.std.proofs.Common.{◌≡◌, ℕ, zero, suc, ◌+◌, ◌<◌, ◌≤◌, ◌||◌, not, Bool, true, false, cond, List, [], ◌∷◌, ◌++◌, map, length, take, set, get_or, slice_get, nat_lt, Option, Some, None, is_some, refl, inl, inr, sym, ap, ◌∙◌, subst, append_assoc, append-nil, arith}
 use Rattle.std.specs.Prelude.{IfSome, position}
 use Rattle.std.specs.List.{find, position_or_len, range_with_len}
 use Rattle.std.proofs.lemmas.Bool.{cases_lt}
@@ -19,7 +19,7 @@ use Rattle.board_plan.specs.Run.{Noted, notes, round, run, steps_of}
 use Rattle.board_core.specs.Played.{IsPlayed, Played, state_of}
 use Rattle.board_core.proofs.Going.{notes-append, run-append}
 use Rattle.board_lock.specs.Hand.{Hand, board_after, hand_after, turn_note}
-use Rattle.board_lock.specs.Replaying.{Agrees, IsActor, Tries, is_same, worker_of}
+use Rattle.board_lock.specs.Replaying.{IsActor, Tries, is_same, worker_of}
 use Rattle.board_lock.specs.Trying.{Goes, Went, is_step}
 use Rattle.board_lock.proofs.Agreeing.{IsAt, after_plan, agrees_after, same_actor}
 use Rattle.board_lock.proofs.Turning.{idle_tries, no_hart, not_on_board, turn_came, turn_tries, unwanted_none}

@@ -12,7 +12,7 @@ use Rattle.board_plan.specs.declared.plan.Plan.{Plan}
 use Rattle.board_plan.specs.State.{BoardState, ReporterState}
 use Rattle.board_plan.specs.Step.{Stepped, acts_made, hart_step, is_wanted, made_by, next_act, reporter_step, step, step_of, wants}
 use Rattle.board_plan.specs.Run.{Ran, noted, state_after, steps_of}
-use Rattle.board_core.specs.Played.{IsPlayed, Played, acts_of, after_act, after_hart, after_hart_step, after_reporter, has_list, is_list, listed, listed_act, listed_for, note_of, own_run, state_of, with_act, with_step}
+use Rattle.board_core.specs.Played.{IsPlayed, Played, after_act, after_hart, after_hart_step, after_reporter, has_list, is_list, listed, listed_act, listed_for, note_of, own_run, state_of, with_act, with_step}
 use Rattle.board_core.proofs.Early.{acted_not_idle, hart_not_idle}
 use Rattle.board_core.proofs.Going.{gone_on}
 use Rattle.board_core.proofs.Steps.{hart_goes_on, reporter_goes_on}
@@ -56,6 +56,7 @@ wanted_there plan r s wanted = go (slice_get plan.reporters r) (slice_get s.repo
     second : (p q : Bool) → (p && q) ≡ true → q ≡ true
     second true q is = is
     second false q is = absurd (cc)
+
     go : (o : Option plan_reporter.Reporter) (q : Option ReporterState) → slice_get plan.reporters r ≡ o
         → slice_get s.reporters r ≡ q → is_wanted o q ≡ true → IsThere plan r s
     go None q declared there wanted = absurd (cc)
@@ -95,8 +96,10 @@ act_is acts b ws w r played agrees found there =
   where
     s : BoardState
     s = state_of b
+
     lists : is_list b.plan r ≡ is_none there.decl.device
     lists = ap has_list there.declared
+
     go : (q : Bool) → is_none there.decl.device ≡ q → handed_act w b r ≡ next_act acts r s
     go true is =
         cond-true (is_list b.plan r) (listed b r) (act_at_hand w) (lists ∙ is)
@@ -179,8 +182,10 @@ reporter_tries acts b ws w r played agrees found = go (wants b.plan r (state_of 
   where
     a : Option Act
     a = handed_act w b r
+
     s : BoardState
     s = state_of b
+
     go : (q : Bool) → wants b.plan r s ≡ q → Tries acts b (Reporter r ∷ []) (after_reporter r a b)
     go true wanted =
         let there = wanted_there b.plan r s wanted in

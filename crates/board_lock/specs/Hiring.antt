@@ -41,8 +41,8 @@ hired plan devices =
 
 -- ---- A whole run ----
 
--- a board of the plan whose steps were all made, and after which nobody is left with one, where the reporter of a device
--- has all that the device gives; its own run is that of its steps with these acts, and that run is safe
+-- a board of the plan whose steps were all made, and after which nobody is left with one, where the reporter of a
+-- device has all that the device gives; its own run is that of its steps with these acts, and that run is safe
 pub record IsWholeRun (plan : Plan) (devices : List (List Act)) (b : Played) : Type 0 where
   pub same_plan : b.plan ≡ plan
   pub whole : IsWhole plan (lists plan devices) b.steps

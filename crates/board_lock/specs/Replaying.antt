@@ -59,8 +59,8 @@ pub record Tries (acts : ℕ → List Act) (b : Played) (ts : List Step) (c : Pl
   pub state : state_of c ≡ run b.plan acts (state_of b) ts
   pub steps : c.steps ≡ b.steps ++ steps_of (notes b.plan acts (state_of b) ts)
 
--- these steps were tried, and then rounds up to the first in which nobody made a step, which was tried too; nobody has a
--- step afterwards
+-- these steps were tried, and then rounds up to the first in which nobody made a step, which was tried too; nobody has
+-- a step afterwards
 pub record Replays (acts : ℕ → List Act) (b : Played) (steps : List Step) (c : Played) : Type 0 where
   pub count : ℕ
   pub tries : Tries acts b (steps ++ rounds b.plan (suc count)) c

@@ -5,8 +5,8 @@ ghost use Rattle.ras_device.specs.Acts.{HasReports};
 
 use ras_device::Act;
 
-/// What the worker of a reporter has at hand: its device, the acts that the device gave, with room for as many as it may
-/// give, and how many of them were handed on.
+/// What the worker of a reporter has at hand: its device, the acts that the device gave, with room for as many as it
+/// may give, and how many of them were handed on.
 #[derive(Drop)]
 pub(crate) struct Hands<D> {
     pub(crate) reporter: u8,

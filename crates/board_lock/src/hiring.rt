@@ -86,13 +86,7 @@ fn hire_reporters<D: ErrorDevice>(
 {
     let reporters = plan.reporters.as_slice();
     for number in 0..reporters.len() {
-        let worker = hire_reporter(
-            alloc,
-            plan.harts,
-            number as u8,
-            &reporters[number],
-            shelf,
-        )?;
+        let worker = hire_reporter(alloc, plan.harts, number as u8, &reporters[number], shelf)?;
         workers.push(worker)?;
     }
     Ok(())

@@ -19,8 +19,8 @@ const MOST_TRIES: u32 = 10_001;
 /// How many rounds `rounds` makes at most: no run has more than 160,000 steps, and one idle round ends it.
 const MOST_ROUNDS: u32 = 160_001;
 
-/// A board behind a lock. Whenever the lock is free, the board is the run of the steps that it keeps, since each board is
-/// that: contracts see it as its plan, acts and steps, and all else that it answers is that of their run.
+/// A board behind a lock. Whenever the lock is free, the board is the run of the steps that it keeps, since each board
+/// is that: contracts see it as its plan, acts and steps, and all else that it answers is that of their run.
 #[derive(Drop)]
 pub struct Shared {
     board: Mutex<Board>,
@@ -93,9 +93,14 @@ fn work_all<R: Threads + Wait + Sync, G: Gate + Sync, D: ErrorDevice>(
 {
     let count = workers.len();
     if count > 0 {
-        thread::for_each_mut(rt, workers, count, &|_, worker: &mut Worker<D>|
-            ensures { Stays (hand_of D.left worker.old) (hand_of D.left worker.new) }
-        { work(rt, worker, shared, gate) });
+        thread::for_each_mut(
+            rt,
+            workers,
+            count,
+            &|_, worker: &mut Worker<D>|
+                ensures { Stays (hand_of D.left worker.old) (hand_of D.left worker.new) }
+            { work(rt, worker, shared, gate) },
+        );
     }
 }
 

@@ -15,15 +15,15 @@ use board_plan::Plan;
 use ras_device::ErrorDevice;
 use ras_io::NoMemory;
 use std::alloc::Global;
-use std::thread::Threads;
 use std::sync::Wait;
+use std::thread::Threads;
 
-/// Runs a plan by a worker for each hart and reporter, all of them beside one another on one board behind a lock, until a
-/// whole round made no step. The steps that the locked board kept are then tried in their order on a second board, where
-/// the acts that the devices gave are handed on again before the devices are asked for more, and rounds are tried up to
-/// the first idle one. That second board is answered: each of its steps was made, and nobody has a step after them. A
-/// device belongs to the reporter that names its place in the list; a reporter whose device isn't there has no acts. All
-/// memory is taken before the first step: `NoMemory` comes only where no room was found. This project's own.
+/// Runs a plan by a worker for each hart and reporter, all of them beside one another on one board behind a lock, until
+/// a whole round made no step. The steps that the locked board kept are then tried in their order on a second board,
+/// where the acts that the devices gave are handed on again before the devices are asked for more, and rounds are tried
+/// up to the first idle one. That second board is answered: each of its steps was made, and nobody has a step after
+/// them. A device belongs to the reporter that names its place in the list; a reporter whose device isn't there has no
+/// acts. All memory is taken before the first step: `NoMemory` comes only where no room was found. This project's own.
 pub fn run_plan<R: Threads + Wait + Sync, G: Gate + Sync, D: ErrorDevice>(
     rt: &R,
     alloc: Global,

@@ -10,7 +10,7 @@ use Rattle.board_lock.proofs.hiring.hire_reporters.Given as goal
 abbrev pub invariant-loop-number : goal.invariant-loop-number
 invariant-loop-number g l = record {
   hands : map (hand_of g.D.ErrorDevice.left) l.workers ≡ map (hand_of g.D.ErrorDevice.left) l.fn.workers
-    ++ map (reporter_hand l.fn.plan (map (left_or_none g.D.ErrorDevice.left) l.fn.shelf)) (range_with_len 0 l.number);
+      ++ map (reporter_hand l.fn.plan (map (left_or_none g.D.ErrorDevice.left) l.fn.shelf)) (range_with_len 0 l.number);
   kept : IsKept l.fn.plan l.number (map (left_or_none g.D.ErrorDevice.left) l.fn.shelf)
-    (map (left_or_none g.D.ErrorDevice.left) l.shelf);
+      (map (left_or_none g.D.ErrorDevice.left) l.shelf);
 }

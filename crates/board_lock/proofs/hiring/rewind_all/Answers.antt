@@ -1,5 +1,5 @@
 -- One worker more, and all of them.
-use Rattle.std.proofs.Common.{◌≤◌, length, arith}
+use Rattle.std.proofs.Common.{arith}
 use Rattle.board_lock.specs.Workers.{hand_of}
 use Rattle.board_lock.proofs.Staying.{rewound_ends, rewound_more}
 use Rattle.board_lock.proofs.hiring.rewind_all.Goals as goal

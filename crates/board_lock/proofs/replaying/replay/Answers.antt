@@ -1,5 +1,5 @@
 -- The steps, then the rounds.
-use Rattle.std.proofs.Common.{◌≡◌, length, ap, sym, ◌∙◌, arith}
+use Rattle.std.proofs.Common.{◌≡◌, length, ap, arith}
 use Rattle.sse_base.specs.Machine.{Machine}
 use Rattle.board_core.specs.Played.{state_of}
 use Rattle.board_lock.proofs.Rounding.{replays}

@@ -8,7 +8,7 @@ use Rattle.board_lock.proofs.replaying.try_rounds.Given as goal
 abbrev pub invariant-loop : goal.invariant-loop
 invariant-loop g l = record {
   busy : WentBusy l.fn.board (map (hand_of g.D.ErrorDevice.left) l.fn.workers) l.board
-    (map (hand_of g.D.ErrorDevice.left) l.workers);
+      (map (hand_of g.D.ErrorDevice.left) l.workers);
 }
 
 abbrev pub decreases-loop : goal.decreases-loop

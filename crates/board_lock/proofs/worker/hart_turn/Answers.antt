@@ -1,5 +1,5 @@
 -- A hart that the board hasn't makes no step.
-use Rattle.std.proofs.Common.{◌≤◌, length, ap, sym, ◌∙◌, arith}
+use Rattle.std.proofs.Common.{◌≤◌, length, ap, sym, arith}
 use Rattle.sse_base.specs.Machine.{Machine}
 use Rattle.board_plan.specs.declared.plan.Plan.{Plan}
 use Rattle.board_core.specs.Played.{after_hart_step, note_of, state_of}

@@ -15,8 +15,7 @@ pub returns-clause-still : goal.returns-clause-still
 returns-clause-still g c idle =
     let w = hand_of g.D.ErrorDevice.left c.args.self.now in
     let b = c.args.board.now in
-    let note = sym c.try_step.ensures.note ∙ idle in
-    (
+    let note = sym c.try_step.ensures.note ∙ idle in (
       c.try_step.ensures.board ∙ idle_board b w w.actor note,
       c.try_step.ensures.hand ∙ idle_hand b w w.actor note,
     )
