@@ -1,5 +1,9 @@
 //! Plans of scripts, and reports of boards.
 
+ghost use Rattle.std.specs.Prelude.{IfOk};
+ghost use Rattle.board_plan.specs.Plans.{IsPlan};
+ghost use Rattle.board_core.specs.Played.{AreListsReports};
+
 use board_core::Board;
 use board_plan::{Plan, Step};
 use board_report::report;
@@ -9,7 +13,10 @@ use std::alloc::Global;
 use std::test::Fail;
 
 /// The plan that a script gives.
-pub(crate) fn plan_of(alloc: Global, script: &[u8]) -> Result<Plan, Fail> {
+pub(crate) fn plan_of(alloc: Global, script: &[u8]) -> Result<Plan, Fail>
+    ensures plan { IfOk result (λ plan. IsPlan plan) }
+    ensures reports { IfOk result (λ plan. AreListsReports plan) }
+{
     if script.len() > 4096 {
         return Err(Fail::new("a long script"));
     }
