@@ -1,0 +1,17 @@
+-- One hart more.
+use Rattle.std.proofs.Common.{Bool, ◌||◌, sym, ap, ◌∙◌}
+use Rattle.board_plan.specs.declared.notes.Step.TheVariants.{Hart}
+use Rattle.board_lock.proofs.Trying.{went_more}
+use Rattle.board_lock.proofs.replaying.try_harts.Goals as goal
+use Rattle.board_lock.proofs.replaying.try_harts.Goals.{then-made, else-made}
+
+pub loop-hart-preserved : goal.loop-hart-preserved
+loop-hart-preserved g c =
+    let moved = c.try_as-moved.result in
+    record {
+      went = went_more _ _ _ _ _ _ Hart c.loop-hart.hart c.loop-hart.made moved c.if-made.made
+          (elim c.if-made.branch [
+            | then-made w ↦ ap (λ (b : Bool). b || moved) w.if-made.true ∙ sym w.if-made.true ∙ sym w.made-is
+            | else-made w ↦ ap (λ (b : Bool). b || moved) w.if-made.false ∙ sym w.made-is
+          ]) c.loop-hart.invariant.went c.try_as-moved.ensures;
+    }

@@ -1,0 +1,166 @@
+//! The top call that runs a script with a worker for each hart and reporter.
+
+ghost use Rattle.std.specs.Prelude.{◌≡◌, ◌↔◌, ℕ, ◌≤◌, ◌<◌, true, false, IfSome, bytes_eq, length};
+ghost use Rattle.std.specs.Io.KnownBytes.{IsAtEnd};
+ghost use Rattle.ras_io.specs.Causes.{Rose};
+ghost use Rattle.ras_io.specs.Whole.{TakesOneTooMany};
+ghost use Rattle.board_plan.specs.Plans.{IsPlan};
+ghost use Rattle.board_plan.specs.Script.{IsRefused};
+ghost use Rattle.board_core.specs.Played.{AreListsReports};
+ghost use Rattle.board_lock.specs.Hiring.{left_in};
+ghost use Rattle.board_lock.specs.Once.{AreNamedOnce};
+ghost use Rattle.board_run.specs.Play.{
+  limit,
+  Answers,
+  is_silent,
+  is_of_text,
+  is_read_fault,
+  is_write_fault,
+};
+ghost use Rattle.board_run.specs.Run.{WritesRun, WritesRunFront, WroteRun, is_run};
+
+use crate::status::Status;
+use board_lock::{Gate, run_plan};
+use board_plan::{LineFault, Plan};
+use board_report::report;
+use board_script::{ScriptError, read};
+use ras_device::ErrorDevice;
+use ras_io::{ReadAllError, Sink, Source, read_all};
+use std::alloc::Global;
+use std::sync::Wait;
+use std::thread::Threads;
+
+/// The longest input that is read, in bytes.
+const LIMIT: usize = 1048576;
+
+/// Whether these words are the one command of `run`.
+fn is_run(words: &[&str]) -> bool
+    ensures { result ≡ is_run words.now }
+{
+    let [name] = words else {
+        return false;
+    };
+    name.as_bytes() == b"run".as_slice()
+}
+
+/// Runs a plan, and writes the full report of its run. NoMemory comes before anything is written.
+fn write_run<R: Threads + Wait + Sync, K: Sink, G: Gate + Sync, D: ErrorDevice>(
+    rt: &R,
+    alloc: Global,
+    plan: &Plan,
+    sink: &mut K,
+    devices: Vec<D>,
+    gate: &G,
+) -> Status
+    requires plan { IsPlan plan.now }
+    requires once { AreNamedOnce plan.now.reporters }
+    requires reports { AreListsReports plan.now }
+    ensures wrote { WroteRun (left_in D.left devices.items) plan.now (K.written sink.old) (K.written sink.new) result }
+    ensures fault { result ≡ Status.WriteFault → Rose (K.faults sink.old) (K.faults sink.new) }
+    ensures kept { is_write_fault result ≡ false → K.faults sink.new ≡ K.faults sink.old }
+    ensures silent { is_silent result ≡ true → sink.new ≡ sink.old }
+{
+    let Ok(board) = run_plan(rt, alloc, plan, devices, gate) else {
+        return Status::NoMemory;
+    };
+    match report(&board, false, sink) {
+        Ok(()) => Status::Ok,
+        Err(_) => Status::WriteFault,
+    }
+}
+
+/// Reads a script, runs it and writes the full report of its run.
+fn run_with<R: Threads + Wait + Sync, S: Source, K: Sink, G: Gate + Sync, D: ErrorDevice>(
+    rt: &R,
+    alloc: Global,
+    source: &mut S,
+    sink: &mut K,
+    devices: Vec<D>,
+    gate: &G,
+) -> Status
+    ensures ok { result ≡ Status.Ok → IfSome (S.left source.old)
+        (λ text. WritesRun (left_in D.left devices.items) text (K.written sink.old) (K.written sink.new)) }
+    ensures ended { result ≡ Status.Ok → IsAtEnd (S.left source.new) }
+    ensures used { (result ≡ Status.Usage) → ⊥ }
+    ensures read_fault { result ≡ Status.ReadFault → Rose (S.faults source.old) (S.faults source.new) }
+    ensures too_long { result ≡ Status.TooLong → IfSome (S.left source.old) (λ text. limit < length text) }
+    ensures one_too_many { result ≡ Status.TooLong → TakesOneTooMany (S.left source.old) (S.left source.new) limit }
+    ensures bad_script { (line : ℕ) (kind : LineFault) → result ≡ Status.BadScript line kind →
+        IfSome (S.left source.old) (λ text. IsRefused text line kind) }
+    ensures within { is_of_text result ≡ true → IfSome (S.left source.old) (λ text. length text ≤ limit) }
+    ensures write_fault { result ≡ Status.WriteFault → Rose (K.faults sink.old) (K.faults sink.new) }
+    ensures front { result ≡ Status.WriteFault → IfSome (S.left source.old)
+        (λ text. WritesRunFront (left_in D.left devices.items) text (K.written sink.old) (K.written sink.new)) }
+    ensures source_kept { is_read_fault result ≡ false → S.faults source.new ≡ S.faults source.old }
+    ensures sink_kept { is_write_fault result ≡ false → K.faults sink.new ≡ K.faults sink.old }
+    ensures silent { is_silent result ≡ true → sink.new ≡ sink.old }
+    ensures complete { (Rose (S.faults source.old) (S.faults source.new) → ⊥) →
+        IfSome (S.left source.old) (λ text. Answers text result) }
+{
+    let text = match read_all(alloc, source, LIMIT) {
+        Ok(text) => text,
+        Err(ReadAllError::ReadFault) => return Status::ReadFault,
+        Err(ReadAllError::TooLong) => return Status::TooLong,
+        Err(ReadAllError::NoMemory) => return Status::NoMemory,
+    };
+    let plan = match read(alloc, text.as_slice()) {
+        Ok(plan) => plan,
+        Err(ScriptError::BadLine { line, kind }) => return Status::BadScript { line, kind },
+        Err(ScriptError::NoMemory) => return Status::NoMemory,
+    };
+    write_run(rt, alloc, &plan, sink, devices, gate)
+}
+
+/// Reads a whole script from the source, runs it with a worker for each hart and reporter, all of them beside one
+/// another on one board behind a lock, and writes the full report of that run to the sink, each line in one write. The
+/// one command is the word `run`. The script's schedule is ignored: the schedule lines of the report say in which order
+/// the steps were made, one that the lock kept. Device K of `devices` belongs to the reporter that names it; a reporter
+/// whose device isn't there has no acts. The gate is told before each hold of the lock. It waits for the board's lock
+/// alone, and its promise holds if it returns.
+///
+/// The answers, in the order in which they are looked for: Usage, ReadFault, TooLong, NoMemory, BadScript, NoMemory
+/// again, WriteFault. The rules are this project's own.
+pub fn run<R: Threads + Wait + Sync, S: Source, K: Sink, G: Gate + Sync>(
+    rt: &R,
+    alloc: Global,
+    words: &[&str],
+    source: &mut S,
+    sink: &mut K,
+    devices: Vec<Box<dyn ErrorDevice + Send>>,
+    gate: &G,
+) -> Status
+    // The whole report of a run is appended in which each step was made and after which nobody has one, and nothing is
+    // left in the source.
+    ensures ok { result ≡ Status.Ok → IfSome (S.left source.old)
+        (λ text. WritesRun (left_in left devices.items) text (K.written sink.old) (K.written sink.new)) }
+    ensures ended { result ≡ Status.Ok → IsAtEnd (S.left source.new) }
+
+    // Why each other answer comes.
+    ensures usage { (result ≡ Status.Usage) ↔ (is_run words.now ≡ false) }
+    ensures read_fault { result ≡ Status.ReadFault → Rose (S.faults source.old) (S.faults source.new) }
+    ensures too_long { result ≡ Status.TooLong → IfSome (S.left source.old) (λ text. limit < length text) }
+    ensures one_too_many { result ≡ Status.TooLong → TakesOneTooMany (S.left source.old) (S.left source.new) limit }
+    ensures bad_script { (line : ℕ) (kind : LineFault) → result ≡ Status.BadScript line kind →
+        IfSome (S.left source.old) (λ text. IsRefused text line kind) }
+    ensures within { is_of_text result ≡ true → IfSome (S.left source.old) (λ text. length text ≤ limit) }
+    ensures write_fault { result ≡ Status.WriteFault → Rose (K.faults sink.old) (K.faults sink.new) }
+    ensures front { result ≡ Status.WriteFault → IfSome (S.left source.old)
+        (λ text. WritesRunFront (left_in left devices.items) text (K.written sink.old) (K.written sink.new)) }
+
+    // No fault is passed over.
+    ensures source_kept { is_read_fault result ≡ false → S.faults source.new ≡ S.faults source.old }
+    ensures sink_kept { is_write_fault result ≡ false → K.faults sink.new ≡ K.faults sink.old }
+
+    // Before every answer but Ok and WriteFault nothing is written, and before Usage nothing is read.
+    ensures silent { is_silent result ≡ true → sink.new ≡ sink.old }
+    ensures unread { result ≡ Status.Usage → source.new ≡ source.old }
+
+    // Where the source has no fault, a text has its one answer, unless memory is wanting or the sink fails.
+    ensures complete { is_run words.now ≡ true → (Rose (S.faults source.old) (S.faults source.new) → ⊥) →
+        IfSome (S.left source.old) (λ text. Answers text result) }
+{
+    if !is_run(words) {
+        return Status::Usage;
+    }
+    run_with(rt, alloc, source, sink, devices, gate)
+}
