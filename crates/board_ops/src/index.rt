@@ -1,45 +1,60 @@
 //! Which op stands at an address.
 
-ghost use Rattle.std.specs.Prelude.{◌≡◌, List, [], ◌∷◌, ◌++◌, OnOk, IfOk};
+ghost use Rattle.std.specs.Prelude.{◌≡◌, ◌<◌, List, [], ◌∷◌, ◌++◌, All, OnOk, IfOk};
 ghost use Rattle.board_plan.specs.declared.ops.Placed.{Placed};
 ghost use Rattle.board_plan.specs.Ops.{op_at};
-ghost use Rattle.board_ops.specs.Indexes.{Indexes};
+ghost use Rattle.board_ops.specs.Indexes.{Finds, Indexes, IsThere};
 
 use board_plan::{Op, Placed};
 use ras_io::NoMemory;
-use std::alloc::Global;
+use std::alloc::{AllocError, Global};
 use std::collections::BTreeMap;
 
-/// The ops of a plan by their addresses.
+/// How many hints there are.
+const HINTS: usize = 4096;
+
+/// An odd number that spreads addresses over the hints.
+const SPREAD: u64 = 0x9e37_79b9_7f4a_7c15;
+
+/// The ops of a plan in the order of their addresses.
 #[derive(Drop)]
-pub struct OpIndex {
+struct Tree {
     by_pc: BTreeMap<u64, Op>,
 }
 
-impl OpIndex {
-    /// The index of these ops; of several at one address, the first counts. `NoMemory` comes where no room was found.
-    pub fn new(alloc: Global, ops: &[Placed]) -> Result<OpIndex, NoMemory>
-        ensures { IfOk result (λ index. Indexes ops.now index) }
+/// The ops of a plan by their addresses. Each address has a hint at the op that may stand there, so that most ops are
+/// found at one look.
+#[derive(Drop)]
+pub struct OpIndex {
+    tree: Tree,
+    near: Vec<Placed>,
+    hints: [u16; HINTS],
+}
+
+impl Tree {
+    /// The tree of these ops; of several at one address, the first counts. `NoMemory` comes where no room was found.
+    fn new(alloc: Global, ops: &[Placed]) -> Result<Tree, NoMemory>
+        ensures { IfOk result (λ tree. Finds ops.now tree) }
     {
-        let mut index = OpIndex::empty(alloc);
+        let mut tree = Tree::empty(alloc);
         for placed in ops {
-            index.add(placed)?;
+            tree.add(placed)?;
         }
-        Ok(index)
+        Ok(tree)
     }
 
     /// No ops.
-    fn empty(alloc: Global) -> OpIndex
-        ensures { Indexes [] result }
+    fn empty(alloc: Global) -> Tree
+        ensures { Finds [] result }
     {
-        OpIndex {
+        Tree {
             by_pc: BTreeMap::new(alloc),
         }
     }
 
     /// Adds an op behind the others.
     fn add(&mut self, placed: &Placed) -> Result<(), NoMemory>
-        ensures { OnOk result ((ops : List Placed) → Indexes ops self.old → Indexes (ops ++ placed.now ∷ []) self.new) }
+        ensures { OnOk result ((ops : List Placed) → Finds ops self.old → Finds (ops ++ placed.now ∷ []) self.new) }
     {
         if self.by_pc.contains_key(&placed.pc) {
             return Ok(());
@@ -51,9 +66,61 @@ impl OpIndex {
     }
 
     /// The op at an address. None exactly where none stands there.
+    fn get(&self, pc: u64) -> Option<Op>
+        ensures { (ops : List Placed) → Finds ops self.now → result ≡ op_at pc ops }
+    {
+        self.by_pc.get(&pc).copied()
+    }
+}
+
+/// Which hint is an address's.
+fn hint_of(pc: u64) -> usize
+    ensures { result < 4096 }
+{
+    (pc.wrapping_mul(SPREAD) / 0x10_0000_0000_0000 % 4096) as usize
+}
+
+/// The ops that are found at their addresses.
+fn found(alloc: Global, tree: &Tree, ops: &[Placed]) -> Result<Vec<Placed>, AllocError>
+    ensures { IfOk result (λ near. (all : List Placed) → Finds all tree.now → All (IsThere all) near.items) }
+{
+    let mut near = Vec::with_capacity(alloc, ops.len())?;
+    for placed in ops {
+        if let Some(op) = tree.get(placed.pc) {
+            near.push(Placed { pc: placed.pc, op })?;
+        }
+    }
+    Ok(near)
+}
+
+/// The hints at these ops.
+fn hints(near: &[Placed]) -> [u16; HINTS] {
+    let mut hints = [0; HINTS];
+    for i in 0..near.len().min(HINTS) {
+        hints[hint_of(near[i].pc)] = i as u16;
+    }
+    hints
+}
+
+impl OpIndex {
+    /// The index of these ops; of several at one address, the first counts. `NoMemory` comes where no room was found.
+    pub fn new(alloc: Global, ops: &[Placed]) -> Result<OpIndex, NoMemory>
+        ensures { IfOk result (λ index. Indexes ops.now index) }
+    {
+        let tree = Tree::new(alloc, ops)?;
+        let near = found(alloc, &tree, ops).map_err(|_| NoMemory)?;
+        let hints = hints(&near);
+        Ok(OpIndex { tree, near, hints })
+    }
+
+    /// The op at an address. None exactly where none stands there.
     pub fn get(&self, pc: u64) -> Option<Op>
         ensures { (ops : List Placed) → Indexes ops self.now → result ≡ op_at pc ops }
     {
-        self.by_pc.get(&pc).copied()
+        let hint = self.hints[hint_of(pc)] as usize;
+        match self.near.get(hint) {
+            Some(placed) if placed.pc == pc => Some(placed.op),
+            _ => self.tree.get(pc),
+        }
     }
 }

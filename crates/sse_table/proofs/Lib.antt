@@ -3,3 +3,4 @@ pub mod Orders
 pub mod Slots
 pub mod Bits
 pub mod Checks
+pub mod Hints

@@ -1,12 +1,9 @@
 -- A slot of the three lists that stand side by side.
-use Rattle.std.proofs.Common.{◌≡◌, ℕ, zero, suc, ◌<◌, List, [], ◌∷◌, length, get_or, refl, ap, arith, Bool, true, false, cond}
+use Rattle.std.proofs.Common.{◌≡◌, ℕ, zero, suc, ◌<◌, List, [], ◌∷◌, length, get_or, refl, ap, arith, Bool}
 use Rattle.std.specs.Prelude.{Some, slice_get}
-use Rattle.std.proofs.lemmas.Bool.Decides.{nat_tests}
 use Rattle.sse_base.specs.declared.ids.Instance.{Instance}
-use Rattle.sse_base.specs.declared.ids.Instance.TheVariants.{Local, Global}
 use Rattle.sse_base.specs.declared.events.Event.{Event}
 use Rattle.sse_base.specs.declared.events.Slot.{Slot}
-use Rattle.sse_base.specs.Ids.{place, same_instance}
 use Rattle.sse_base.specs.Events.{joined}
 
 abbrev slot_with : Instance → Event → Bool → Slot

@@ -3,6 +3,7 @@
 
 mod instances;
 mod pending;
+mod places;
 mod start;
 mod table;
 mod writes;

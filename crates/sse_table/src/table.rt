@@ -7,8 +7,9 @@ ghost use Rattle.sse_base.specs.Ids.{place};
 ghost use Rattle.sse_base.specs.Events.{IsOnBoard, is_on_board, change, event, moved, start_events, slots, signal, set_running, set_completed, is_enabled, is_running};
 ghost use Rattle.sse_base.specs.Calls.{find_instance, take_next, with_handler, register, unregister, enable, disable, attribute, check_write, some_word, is_refused_value, with_attributes};
 
-use crate::instances::{instance_of, place};
+use crate::instances::instance_of;
 use crate::pending::Pending;
+use crate::places::Places;
 use crate::start;
 use crate::writes::{some_never_written, some_refused_value, some_shut};
 use ras_io::NoMemory;
@@ -23,7 +24,7 @@ use std::marker::Model;
 #[derive(Drop)]
 pub struct Table {
     harts: u8,
-    instances: Vec<Instance>,
+    instances: Places,
     each: Vec<Event>,
     marks: Pending,
 }
@@ -37,15 +38,15 @@ impl Model for Table {
 
     ghost view = { λ t. record {
       harts = t.harts;
-      instances = t.instances.items;
+      instances = t.instances;
       each = t.each.items;
       marks = t.marks;
     } };
 
     ghost invariant = { λ t.
-        (length t.each.items ≡ length t.instances.items)
-        × (length t.marks ≡ length t.instances.items)
-        × (length t.instances.items ≤ MAX_INSTANCES) };
+        (length t.each.items ≡ length t.instances)
+        × (length t.marks ≡ length t.instances)
+        × (length t.instances ≤ MAX_INSTANCES) };
 }
 
 /// An event with where its handler begins and its argument.
@@ -79,7 +80,7 @@ fn made(alloc: Global, harts: u8, events: &[EventDecl]) -> Result<Table, AllocEr
     let marks = Pending::new(instances.len() as u16);
     Ok(Table {
         harts,
-        instances,
+        instances: Places::new(instances),
         each,
         marks,
     })
@@ -121,7 +122,7 @@ impl Table {
             return Err(SbiCode::InvalidParam);
         }
         let at = instance_of(id, hart);
-        if place(&self.instances, at) < self.instances.len() {
+        if self.instances.place(at) < self.instances.len() {
             Ok(at)
         } else {
             Err(SbiCode::NotSupported)
@@ -132,7 +133,7 @@ impl Table {
     pub fn has(&self, at: Instance) -> bool
         ensures { result ≡ is_on_board at self.now }
     {
-        place(&self.instances, at) < self.instances.len()
+        self.instances.place(at) < self.instances.len()
     }
 
     /// How many instances the board has.
@@ -152,7 +153,7 @@ impl Table {
         requires { index < length self.now.instances }
         ensures { slice_get self.now.instances index ≡ Some result }
     {
-        self.instances[index as usize]
+        self.instances.at(index as usize)
     }
 
     /// The instance with this number, its event and whether it is pending.
@@ -163,7 +164,7 @@ impl Table {
     {
         let i = index as usize;
         Slot {
-            at: self.instances[i],
+            at: self.instances.at(i),
             event: self.each[i],
             pending: self.marks.test(index),
         }
@@ -177,7 +178,7 @@ impl Table {
         ensures at { result.at ≡ at }
         ensures event { result.event ≡ event at self.now }
     {
-        let i = place(&self.instances, at);
+        let i = self.instances.place(at);
         Slot {
             at,
             event: self.each[i],
@@ -190,7 +191,7 @@ impl Table {
         requires { IsOnBoard at self.now }
         ensures { result ≡ moved mv (event at self.now) }
     {
-        let event = self.each[place(&self.instances, at)];
+        let event = self.each[self.instances.place(at)];
         next_state(event.state, mv).map(|state| Event { state, ..event })
     }
 
@@ -207,7 +208,7 @@ impl Table {
         let Some(event) = next else {
             return SbiCode::InvalidState;
         };
-        let i = place(&self.instances, at);
+        let i = self.instances.place(at);
         self.each[i] = event;
         SbiCode::Success
     }
@@ -275,7 +276,7 @@ impl Table {
         requires enabled { is_enabled (event at self.old).state ≡ true }
         ensures { self.new ≡ set_running at self.old }
     {
-        let i = place(&self.instances, at);
+        let i = self.instances.place(at);
         self.each[i].state = gone(self.each[i].state, Move::Deliver);
         self.marks.clear(i as u16);
     }
@@ -286,7 +287,7 @@ impl Table {
         requires running { is_running (event at self.old).state ≡ true }
         ensures { self.new ≡ set_completed at self.old }
     {
-        let i = place(&self.instances, at);
+        let i = self.instances.place(at);
         let mv = if self.each[i].oneshot {
             Move::CompleteOnce
         } else {
@@ -300,7 +301,7 @@ impl Table {
         requires { IsOnBoard at self.old }
         ensures { self.new ≡ signal at self.old }
     {
-        self.marks.set(place(&self.instances, at) as u16);
+        self.marks.set(self.instances.place(at) as u16);
     }
 
     /// Whether software may inject an instance.
@@ -308,7 +309,7 @@ impl Table {
         requires { IsOnBoard at self.now }
         ensures { result ≡ (event at self.now).inject }
     {
-        self.each[place(&self.instances, at)].inject
+        self.each[self.instances.place(at)].inject
     }
 
     /// The priority of an instance: the smaller, the more urgent.
@@ -316,7 +317,7 @@ impl Table {
         requires { IsOnBoard at self.now }
         ensures { result ≡ (event at self.now).priority }
     {
-        self.each[place(&self.instances, at)].priority
+        self.each[self.instances.place(at)].priority
     }
 
     /// Where the handler of an instance begins.
@@ -324,7 +325,7 @@ impl Table {
         requires { IsOnBoard at self.now }
         ensures { result ≡ (event at self.now).entry }
     {
-        self.each[place(&self.instances, at)].entry
+        self.each[self.instances.place(at)].entry
     }
 
     /// What the handler of an instance finds in a7.
@@ -332,7 +333,7 @@ impl Table {
         requires { IsOnBoard at self.now }
         ensures { result ≡ (event at self.now).arg }
     {
-        self.each[place(&self.instances, at)].arg
+        self.each[self.instances.place(at)].arg
     }
 
     /// One of the first six attributes of an instance.
@@ -342,7 +343,7 @@ impl Table {
         requires attribute { attr ≤ 5 }
         ensures { result ≡ attribute attr at self.now }
     {
-        let i = place(&self.instances, at);
+        let i = self.instances.place(at);
         let event = self.each[i];
         match attr {
             attr::STATUS => {
@@ -373,7 +374,7 @@ impl Table {
         requires count { length values.now ≡ range.count }
         ensures { result ≡ check_write range.base values.now at running_here self.now }
     {
-        let state = self.each[place(&self.instances, at)].state;
+        let state = self.each[self.instances.place(at)].state;
         if some_never_written(at, range) {
             SbiCode::Denied
         } else if some_shut(state, running_here, range) {
@@ -393,7 +394,7 @@ impl Table {
         requires accepted { some_word (is_refused_value self.old.harts) base values.now ≡ false }
         ensures { self.new ≡ change at (with_attributes base values.now (event at self.old)) self.old }
     {
-        let i = place(&self.instances, at);
+        let i = self.instances.place(at);
         let old = self.each[i];
         let event = &mut self.each[i];
         event.priority = word_for(attr::PRIORITY, base, values, old.priority as u64) as u32;

@@ -24,3 +24,10 @@ invariant_of-result c = (
   grind (arith, length-replicate),
   grind (arith, few_instances c.args.harts c.in_ok-ordered.ordered.items, order_length c.args.events.now),
 )
+
+pub new-requires : goal.new-requires
+new-requires c =
+    let few : length c.in_ok-instances.instances.items ≤ 256 =
+    few_on_board c.args.harts c.args.events.now c.in_ok-ordered.ordered.items c.in_ok-instances.instances.items
+    c.requires.harts c.requires.events c.in_ok-ordered.ensures (rw (← c.deref.ensures.value) c.in_ok-instances.ensures)
+    in omega arith

@@ -1,5 +1,5 @@
 -- One bit is written.
-use Rattle.std.proofs.Common.{◌<◌, length, set, ap, ◌∙◌, arith, false, ◌≡◌, sym}
+use Rattle.std.proofs.Common.{length, set, ap, ◌∙◌, arith, false, ◌≡◌, sym}
 use Rattle.sse_table.proofs.Bits.{one_cleared, bits_length}
 use Rattle.sse_table.proofs.pending.Pending.clear.Goals as goal
 

@@ -1,5 +1,5 @@
 -- One bit is written.
-use Rattle.std.proofs.Common.{◌<◌, length, set, ap, ◌∙◌, arith, true, ◌≡◌, sym}
+use Rattle.std.proofs.Common.{length, set, ap, ◌∙◌, arith, true, ◌≡◌, sym}
 use Rattle.sse_table.proofs.Bits.{one_set, bits_length}
 use Rattle.sse_table.proofs.pending.Pending.set.Goals as goal
 

@@ -4,7 +4,7 @@ use Rattle.std.specs.Cmp.{unsigned_tied}
 use Rattle.std.specs.Ordering.{nat_cmp}
 use Rattle.std.specs.BTreeMap.{get}
 use Rattle.board_ops.proofs.Indexing.{known_already, first_there}
-use Rattle.board_ops.proofs.index.OpIndex.add.Goals as goal
+use Rattle.board_ops.proofs.index.Tree.add.Goals as goal
 
 pub returns-then-contains_key : goal.returns-then-contains_key
 returns-then-contains_key c = λ ops h.
