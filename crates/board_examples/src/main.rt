@@ -30,7 +30,8 @@ fn is_as_shown<R: Files + AllocGlobal>(rt: &R, script: &str, report: &str) -> io
         return Ok(false);
     };
     let words = ["play", "--trace"];
-    let status = play(rt.alloc(), words.as_slice(), &mut source, &mut sink);
+    let alloc = rt.alloc();
+    let status = play(alloc, words.as_slice(), &mut source, &mut sink, Vec::new(alloc));
     Ok(status == Status::Ok && sink.bytes() == wanted.as_slice())
 }
 

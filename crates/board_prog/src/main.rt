@@ -2,8 +2,11 @@
 #![tactic(auto)]
 
 use board_end::{Failure, ended};
-use board_run::play;
-use ras_io::{StdSink, StdSource};
+use board_run::{Status, play};
+use ras_device::{ErrorDevice, Scrubber, Silent, Storm};
+use ras_io::{Sink, Source, StdSink, StdSource};
+use ras_pulse::{Chain, CountdownDevice, PmuDevice};
+use std::alloc::AllocError;
 use std::io::{self, ErrorKind};
 use std::process::ExitCode;
 use std::rt::Env;
@@ -30,13 +33,38 @@ fn texts<'a, R: AllocGlobal>(rt: &R, words: &'a [String]) -> Result<Vec<&'a str>
     Ok(texts)
 }
 
+/// The event that software raises.
+const SOFTWARE: u32 = 0xffff_0000;
+
+/// Does what the words say with the devices that every run has: a scrubber of record 0 of bank 0, a storm on its first
+/// four records, a silent one, the overflows of a counter on hart 0, a countdown on hart 0, and on hart 1 a countdown
+/// and then overflows. Where there is no memory for them nothing is done.
+fn play_here<R: AllocGlobal, S: Source, K: Sink>(
+    rt: &R,
+    words: &[&str],
+    source: &mut S,
+    sink: &mut K,
+) -> Result<Status, AllocError> {
+    let alloc = rt.alloc();
+    let mut devices: Vec<Box<dyn ErrorDevice + Send>> = Vec::new(alloc);
+    devices.push(Box::new(alloc, Scrubber::new(0, 0, 100))?)?;
+    devices.push(Box::new(alloc, Storm::new(0, 4, 100))?)?;
+    devices.push(Box::new(alloc, Silent::new())?)?;
+    devices.push(Box::new(alloc, PmuDevice::new(0, 3, 10))?)?;
+    devices.push(Box::new(alloc, CountdownDevice::new(SOFTWARE, 0, 10))?)?;
+    let countdown = CountdownDevice::new(SOFTWARE, 1, 5);
+    devices.push(Box::new(alloc, Chain::new(countdown, PmuDevice::new(1, 1, 5)))?)?;
+    Ok(play(alloc, words, source, sink, devices))
+}
+
 /// Does what the words say with what comes in. What waits in the sink goes out before the ending is chosen.
 fn run<R: Env + Input + Print + AllocGlobal>(rt: &R) -> Result<(), Failure> {
     let words = words(rt)?;
     let texts = texts(rt, words.as_slice())?;
     let mut source = StdSource::new(rt.reader());
     let mut sink = StdSink::new(rt.alloc(), io::writer(rt)).map_err(|_| Failure::NoMemory)?;
-    let status = play(rt.alloc(), texts.as_slice(), &mut source, &mut sink);
+    let status = play_here(rt, texts.as_slice(), &mut source, &mut sink)
+        .map_err(|_| Failure::NoMemory)?;
     let flushed = sink.flush();
     ended(status, flushed)
 }

@@ -1,5 +1,6 @@
 -- Lemmas on what is written.
 pub mod Copies
+pub mod Given
 pub mod Joined
 pub mod Listing
 pub mod Loads

@@ -1,7 +1,8 @@
 -- What was written of a moved plan is the move of its text.
-use Rattle.std.proofs.Common.{◌≡◌, ℕ, List, [], Ok, Err, Result, Option, sym, ap, subst}
+use Rattle.std.proofs.Common.{◌≡◌, ℕ, List, Ok, Err, Result, Option, sym, ap, subst}
 use Rattle.ras_io.specs.Causes.{Puts}
 use Rattle.ras_io.specs.declared.faults.SinkFault.{SinkFault}
+use Rattle.ras_device.specs.declared.act.Act.{Act}
 use Rattle.board_plan.specs.declared.plan.Plan.{Plan}
 use Rattle.board_plan.specs.Script.{Reads}
 use Rattle.board_plan.specs.Canonical.{canonical, moved}
@@ -29,12 +30,12 @@ move_is plan new text g is again e =
     }
 
 -- the canonical text of a moved plan was written for each text of the plan: all of it, or a front
-pub move_wrote : (plan new : Plan) (before after : Option (List ℕ)) (r : Result (Unit {0}) SinkFault) (status : Status)
+pub move_wrote : (devices : List (List Act)) (plan new : Plan) (before after : Option (List ℕ)) (r : Result (Unit {0}) SinkFault) (status : Status)
     → GathersByVersion plan → new ≡ moved plan → IsReadWhenMoved plan new → status ≡ status_of r
-    → Puts before after r (canonical new) → Wrote Move [] plan before after status
-move_wrote plan new before after (Ok u) status g is again ended p =
-    subst (Wrote Move [] plan before after) (sym ended) (λ text e.
+    → Puts before after r (canonical new) → Wrote Move devices plan before after status
+move_wrote devices plan new before after (Ok u) status g is again ended p =
+    subst (Wrote Move devices plan before after) (sym ended) (λ text e.
     record { bytes = canonical new; is_output = move_is plan new text g is again e; appended = p.all })
-move_wrote plan new before after (Err fault) status g is again ended p =
-    subst (Wrote Move [] plan before after) (sym ended) (λ text e.
+move_wrote devices plan new before after (Err fault) status g is again ended p =
+    subst (Wrote Move devices plan before after) (sym ended) (λ text e.
     record { bytes = canonical new; is_output = move_is plan new text g is again e; appended = p.front })

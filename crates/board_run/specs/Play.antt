@@ -1,8 +1,9 @@
 -- What the top call promises, one definition a promise. This project's own, over the board book.
-use Rattle.std.specs.Prelude.{◌≡◌, ◌⊎◌, ℕ, nat_lt, Bool, true, false, if◌then◌else◌, List, ◌++◌, length, Option, Result, Ok, Err}
+use Rattle.std.specs.Prelude.{◌≡◌, ◌⊎◌, ℕ, nat_lt, Bool, true, false, if◌then◌else◌, List, ◌++◌, length, map, Option, Result, Ok, Err}
 use Rattle.std.specs.Io.KnownBytes.{Appends}
 use Rattle.ras_io.specs.Causes.{AppendsFront}
 use Rattle.ras_device.specs.declared.act.Act.{Act}
+use Rattle.ras_device.specs.Acts.{Remaining}
 use Rattle.board_plan.specs.declared.notes.Step.{Step}
 use Rattle.board_plan.specs.declared.plan.Plan.{Plan}
 use Rattle.board_plan.specs.Script.{Refusal, script, Reads}
@@ -19,6 +20,12 @@ use Rattle.board_run.specs.declared.status.Status.{Status}
 use Rattle.board_run.specs.declared.status.Status.TheVariants as answers
 use Rattle.board_run.specs.Commands.{limit}
 use Rattle.board_run.specs.Retired.{retired}
+
+-- ---- Devices ----
+
+-- the acts that each device has still to give
+abbrev pub lists_of : {D : Type 0} → (D → Remaining) → List D → List (List Act)
+lists_of left devices = map (λ d. (left d).acts) devices
 
 -- ---- What a command writes ----
 

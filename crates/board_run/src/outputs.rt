@@ -1,13 +1,14 @@
 //! What a command writes.
 
-ghost use Rattle.std.specs.Prelude.{◌≡◌, ℕ, List, [], true, false};
+ghost use Rattle.std.specs.Prelude.{◌≡◌, ℕ, List, true, false};
 ghost use Rattle.ras_io.specs.Causes.{HasCause, Puts, Rose};
+ghost use Rattle.ras_device.specs.declared.act.Act.{Act};
 ghost use Rattle.board_plan.specs.Script.{Reads};
 ghost use Rattle.board_plan.specs.Canonical.{canonical, moved};
 ghost use Rattle.board_plan.specs.Plans.{IsPlan};
 ghost use Rattle.move_laws.specs.Moves.{GathersByVersion};
 ghost use Rattle.board_core.specs.Played.{AreListsReports, own_run};
-ghost use Rattle.board_run.specs.Play.{is_silent, is_write_fault};
+ghost use Rattle.board_run.specs.Play.{is_silent, is_write_fault, lists_of};
 ghost use Rattle.board_run.specs.Parts.{shown_bytes, Writes, Wrote};
 
 use crate::command::{Command, Shown};
@@ -18,6 +19,7 @@ use board_plan::Plan;
 use board_play::play_plan;
 use board_report::{report, trace};
 use board_script::{moved, write};
+use ras_device::ErrorDevice;
 use ras_io::{Sink, SinkFault};
 use std::alloc::Global;
 
@@ -47,16 +49,23 @@ fn write_shown<K: Sink>(alloc: Global, what: Shown, board: &Board, sink: &mut K)
     }
 }
 
-/// Plays a plan, and writes what is shown of its run.
-fn write_play<K: Sink>(alloc: Global, what: Shown, plan: &Plan, sink: &mut K) -> Status
+/// Plays a plan with these devices, and writes what is shown of its run.
+fn write_play<K: Sink, D: ErrorDevice>(
+    alloc: Global,
+    what: Shown,
+    plan: &Plan,
+    devices: Vec<D>,
+    sink: &mut K,
+) -> Status
     requires plan { IsPlan plan.now }
     requires reports { AreListsReports plan.now }
-    ensures wrote { Wrote (Command.Play what) [] plan.now (K.written sink.old) (K.written sink.new) result }
+    ensures wrote { Wrote (Command.Play what) (lists_of D.left devices.items) plan.now (K.written sink.old)
+        (K.written sink.new) result }
     ensures fault { result ≡ Status.WriteFault → Rose (K.faults sink.old) (K.faults sink.new) }
     ensures kept { is_write_fault result ≡ false → K.faults sink.new ≡ K.faults sink.old }
     ensures silent { is_silent result ≡ true → sink.new ≡ sink.old }
 {
-    let Ok(board) = play_plan(alloc, plan) else {
+    let Ok(board) = play_plan(alloc, plan, devices) else {
         return Status::NoMemory;
     };
     write_shown(alloc, what, &board, sink)
@@ -65,7 +74,8 @@ fn write_play<K: Sink>(alloc: Global, what: Shown, plan: &Plan, sink: &mut K) ->
 /// Moves a plan to version 2, and writes its canonical text.
 fn write_move<K: Sink>(mut plan: Plan, sink: &mut K) -> Status
     requires { GathersByVersion plan }
-    ensures wrote { Wrote Command.Move [] plan (K.written sink.old) (K.written sink.new) result }
+    ensures wrote { (devices : List (List Act)) → Wrote Command.Move devices plan (K.written sink.old)
+        (K.written sink.new) result }
     ensures fault { result ≡ Status.WriteFault → Rose (K.faults sink.old) (K.faults sink.new) }
     ensures kept { is_write_fault result ≡ false → K.faults sink.new ≡ K.faults sink.old }
     ensures silent { is_silent result ≡ true → sink.new ≡ sink.old }
@@ -74,24 +84,27 @@ fn write_move<K: Sink>(mut plan: Plan, sink: &mut K) -> Status
     status_of(write(&plan, sink))
 }
 
-/// Does with a plan what the command says, and writes its output. NoMemory comes before anything is written.
-pub(crate) fn write_output<K: Sink>(
+/// Does with a plan and these devices what the command says, and writes its output. NoMemory comes before anything is
+/// written.
+pub(crate) fn write_output<K: Sink, D: ErrorDevice>(
     alloc: Global,
     command: Command,
     plan: Plan,
+    devices: Vec<D>,
     sink: &mut K,
 ) -> Status
     requires plan { IsPlan plan }
     requires reports { AreListsReports plan }
     requires gathers { GathersByVersion plan }
-    ensures wrote { Wrote command [] plan (K.written sink.old) (K.written sink.new) result }
+    ensures wrote { Wrote command (lists_of D.left devices.items) plan (K.written sink.old) (K.written sink.new)
+        result }
     ensures fault { result ≡ Status.WriteFault → Rose (K.faults sink.old) (K.faults sink.new) }
     ensures kept { is_write_fault result ≡ false → K.faults sink.new ≡ K.faults sink.old }
     ensures silent { is_silent result ≡ true → sink.new ≡ sink.old }
 {
     match command {
-        Command::Play(what) => write_play(alloc, what, &plan, sink),
-        Command::Load(_) => write_play(alloc, Shown::Short, &plan, sink),
+        Command::Play(what) => write_play(alloc, what, &plan, devices, sink),
+        Command::Load(_) => write_play(alloc, Shown::Short, &plan, devices, sink),
         Command::Move => write_move(plan, sink),
     }
 }

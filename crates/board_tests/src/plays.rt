@@ -43,7 +43,7 @@ pub(crate) fn outcome(
     }
     let mut source = MemSource::new(Vec::from_slice(alloc, text)?, most.max(1), bad_reads);
     let mut sink = MemSink::new(alloc, ROOM, bad_writes)?;
-    let status = play(alloc, words, &mut source, &mut sink);
+    let status = play(alloc, words, &mut source, &mut sink, Vec::new(alloc));
     Ok((status, Vec::from_slice(alloc, sink.bytes())?))
 }
 
