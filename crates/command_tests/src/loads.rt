@@ -10,6 +10,8 @@ fates made 2000 stray 0 disabled 0 counted 739 drained 107 overwritten 125 kept 
 end
 ";
 
+const FIRST: &[u8] = b"board 1 harts 4 banks 3 reporters 4 steps 7897\n";
+
 #[test]
 fn plays_the_load_of_a_number(rt: HostRuntime) -> Result<(), Fail> {
     for word in ["7", "07", "0007"] {
@@ -29,7 +31,11 @@ fn writes_what_its_script_gives_in_short(rt: HostRuntime) -> Result<(), Fail> {
 fn reads_nothing(rt: HostRuntime) -> Result<(), Fail> {
     let (status, bytes) = outcome(rt.alloc(), &["load", "0"], b"no script", 4096, &[0], &[])?;
     assert_eq!(rt; status, Status::Ok);
-    assert!(rt; bytes.as_slice().starts_with(b"board 1 harts 4 banks 3 reporters 4 steps "));
+    assert!(rt;
+        bytes
+            .as_slice()
+            .starts_with(b"board 1 harts 4 banks 3 reporters 4 steps ")
+    );
     Ok(())
 }
 
@@ -37,7 +43,7 @@ fn reads_nothing(rt: HostRuntime) -> Result<(), Fail> {
 fn writes_the_lines_before_a_write_that_failed(rt: HostRuntime) -> Result<(), Fail> {
     let (status, bytes) = outcome(rt.alloc(), &["load", "7"], b"", 4096, &[], &[1])?;
     assert_eq!(rt; status, Status::WriteFault);
-    assert!(rt; bytes.as_slice() == b"board 1 harts 4 banks 3 reporters 4 steps 7897\n");
+    assert!(rt; bytes.as_slice() == FIRST);
     Ok(())
 }
 

@@ -93,8 +93,14 @@ fn reads_byte_by_byte(rt: HostRuntime) -> Result<(), Fail> {
 #[test]
 fn writes_the_lines_before_a_write_that_failed(rt: HostRuntime) -> Result<(), Fail> {
     for number in 0..3 {
-        let (status, bytes) =
-            outcome(rt.alloc(), &["pages", "1"], FALLING, 4096, &[], &[number as u64])?;
+        let (status, bytes) = outcome(
+            rt.alloc(),
+            &["pages", "1"],
+            FALLING,
+            4096,
+            &[],
+            &[number as u64],
+        )?;
         assert_eq!(rt; status, Status::WriteFault);
         assert!(rt; bytes.as_slice() == &ONCE[..35 * number]);
     }
