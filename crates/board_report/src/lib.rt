@@ -2,6 +2,7 @@
 #![tactic(auto)]
 
 mod bank_lines;
+mod brief;
 mod fields;
 mod hart_lines;
 mod pages;
@@ -11,4 +12,5 @@ mod run_texts;
 mod walks;
 mod writes;
 
+pub use brief::report_brief;
 pub use reports::{report, trace};

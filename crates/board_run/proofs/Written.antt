@@ -1,5 +1,5 @@
 -- What was written of a played board is what is shown of the play of its plan's text.
-use Rattle.std.proofs.Common.{◌≡◌, ℕ, List, [], Ok, Err, Result, Option, refl, ap, ◌∙◌}
+use Rattle.std.proofs.Common.{◌≡◌, ℕ, List, [], Ok, Err, Option, refl, ap, ◌∙◌}
 use Rattle.ras_io.specs.Causes.{Puts}
 use Rattle.ras_io.specs.declared.faults.SinkFault.{SinkFault}
 use Rattle.ras_device.specs.declared.act.Act.{Act}

@@ -1,0 +1,2 @@
+-- A board that keeps no notes, as what was played on it.
+pub mod Inside

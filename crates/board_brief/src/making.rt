@@ -1,0 +1,64 @@
+//! How a board is made of its plan.
+
+ghost use Rattle.std.specs.Prelude.{◌≡◌, ◌≤◌, IfOk, sum_by};
+ghost use Rattle.board_plan.specs.Plans.{IsPlan, most_steps};
+ghost use Rattle.board_core.specs.Played.{AreListsReports, fresh};
+
+use crate::brief::Brief;
+use crate::kept::StepList;
+use board_fates::Tally;
+use board_parts::Parts;
+use board_plan::{Plan, Reporter, Start};
+use ras_io::NoMemory;
+use std::alloc::Global;
+
+/// How many steps all harts may make.
+fn all_budgets(starts: &[Start]) -> usize
+    requires { sum_by (λ s. s.budget) starts.now ≤ 160000 }
+    ensures { result ≡ sum_by (λ s. s.budget) starts.now }
+{
+    let mut total = 0;
+    for start in starts {
+        total += usize::from(start.budget);
+    }
+    total
+}
+
+/// How many acts all reporters may make.
+fn all_limits(reporters: &[Reporter]) -> usize
+    requires { sum_by (λ r. r.limit) reporters.now ≤ 160000 }
+    ensures { result ≡ sum_by (λ r. r.limit) reporters.now }
+{
+    let mut total = 0;
+    for reporter in reporters {
+        total += usize::from(reporter.limit);
+    }
+    total
+}
+
+/// How many steps a run of a plan has at most.
+fn most_steps(plan: &Plan) -> usize
+    requires { IsPlan plan.now }
+    ensures { result ≡ most_steps plan.now }
+{
+    all_budgets(plan.starts.as_slice()) + all_limits(plan.reporters.as_slice())
+}
+
+impl Brief {
+    /// A board of a plan before its first step. It takes all memory that its steps need. `NoMemory` comes only where no
+    /// room was found for it.
+    pub(crate) fn new(alloc: Global, plan: Plan) -> Result<Brief, NoMemory>
+        requires plan { IsPlan plan }
+        requires reports { AreListsReports plan }
+        ensures { IfOk result (λ b. b ≡ fresh plan) }
+    {
+        let parts = Parts::new(alloc, &plan)?;
+        let steps = StepList::new(alloc, most_steps(&plan))?;
+        Ok(Brief {
+            plan,
+            parts,
+            steps,
+            tally: Tally::new(),
+        })
+    }
+}
