@@ -30,7 +30,8 @@ move_is plan new text g is again e =
     }
 
 -- the canonical text of a moved plan was written for each text of the plan: all of it, or a front
-pub move_wrote : (devices : List (List Act)) (plan new : Plan) (before after : Option (List ℕ)) (r : Result (Unit {0}) SinkFault) (status : Status)
+pub move_wrote : (devices : List (List Act)) (plan new : Plan) (before after : Option (List ℕ))
+    (r : Result (Unit {0}) SinkFault) (status : Status)
     → GathersByVersion plan → new ≡ moved plan → IsReadWhenMoved plan new → status ≡ status_of r
     → Puts before after r (canonical new) → Wrote Move devices plan before after status
 move_wrote devices plan new before after (Ok u) status g is again ended p =

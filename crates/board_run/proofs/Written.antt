@@ -29,7 +29,8 @@ shown_is Short plan acts tries = refl
 shown_is (Pages threshold) plan acts tries = refl
 
 report_is : (what : Shown) (plan : Plan) (devices : List (List Act)) (b : Played) (text : List ℕ) → IsPlan plan
-    → AreReports (lists plan devices) → IsRunOf plan devices b → Reads text plan → IsReport what devices text (shown_bytes what b.plan (own_run b))
+    → AreReports (lists plan devices) → IsRunOf plan devices b → Reads text plan
+    → IsReport what devices text (shown_bytes what b.plan (own_run b))
 report_is what plan devices b text is reports r e =
     record {
       plan = plan;

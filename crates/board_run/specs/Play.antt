@@ -68,13 +68,15 @@ IsOutput (Load n) devices text bytes = IsReport Short devices text bytes
 IsOutput Move devices text bytes = IsMove text bytes
 
 -- they were appended to the sink
-pub record WritesOutput (command : Command) (devices : List (List Act)) (text : List ℕ) (old new : Option (List ℕ)) : Type 0 where
+pub record WritesOutput (command : Command) (devices : List (List Act)) (text : List ℕ) (old new : Option (List ℕ))
+    : Type 0 where
   pub bytes : List ℕ
   pub is_output : IsOutput command devices text bytes
   pub appended : Appends old new bytes
 
 -- a front of them was
-pub record WritesFront (command : Command) (devices : List (List Act)) (text : List ℕ) (old new : Option (List ℕ)) : Type 0 where
+pub record WritesFront (command : Command) (devices : List (List Act)) (text : List ℕ) (old new : Option (List ℕ))
+    : Type 0 where
   pub bytes : List ℕ
   pub is_output : IsOutput command devices text bytes
   pub appended : AppendsFront old new bytes

@@ -73,10 +73,12 @@ fn play_load<K: Sink, D: ErrorDevice>(
 ) -> Status
     requires { n ≤ 1000 }
     ensures ok { result ≡ Status.Ok
-        → WritesOutput (Command.Load n) (lists_of D.left devices.items) (load_text n) (K.written sink.old) (K.written sink.new) }
+        → WritesOutput (Command.Load n) (lists_of D.left devices.items) (load_text n) (K.written sink.old)
+        (K.written sink.new) }
     ensures write_fault { result ≡ Status.WriteFault → Rose (K.faults sink.old) (K.faults sink.new) }
     ensures front { result ≡ Status.WriteFault
-        → WritesFront (Command.Load n) (lists_of D.left devices.items) (load_text n) (K.written sink.old) (K.written sink.new) }
+        → WritesFront (Command.Load n) (lists_of D.left devices.items) (load_text n) (K.written sink.old)
+        (K.written sink.new) }
     ensures kept { is_write_fault result ≡ false → K.faults sink.new ≡ K.faults sink.old }
     ensures silent { is_silent result ≡ true → sink.new ≡ sink.old }
     ensures answers { Answers (load_text n) result }
@@ -184,9 +186,9 @@ fn play_with<S: Source, K: Sink, D: ErrorDevice>(
 /// - `move` writes a script that it reads in version 2's form; that form makes the same tries and runs, and its reports
 ///   are the same but for the version.
 ///
-/// Device K of `devices` belongs to the reporter that names it: it is asked for one act at a try of that reporter, while
-/// the reporter is wanted, and is dropped at the first try at which it isn't, or at the end. A reporter whose device
-/// isn't there has no acts.
+/// Device K of `devices` belongs to the reporter that names it: it is asked for one act at a try of that reporter,
+/// while the reporter is wanted, and is dropped at the first try at which it isn't, or at the end. A reporter whose
+/// device isn't there has no acts.
 ///
 /// N is one to four decimal digits, of which zeros may lead. The answers, in the order in which they are looked for:
 /// Usage, ReadFault, TooLong, NoMemory, BadScript, NoMemory again, WriteFault. Of `load` come Ok, NoMemory and
