@@ -1,2 +1,6 @@
--- Tries on a board, one after another.
+-- Tries on a board and its devices, one after another.
+pub mod Asking
+pub mod Fitting
+pub mod Playing
 pub mod Trying
+pub mod Wanting

@@ -1,14 +1,19 @@
 //! Tries of harts and reporters, one after another: a try that has no step is passed over.
 
-ghost use Rattle.std.specs.Prelude.{◌≡◌, ◌≤◌, [], ◌∷◌, length, map};
+ghost use Rattle.std.specs.Prelude.{◌≡◌, ◌≤◌, [], ◌∷◌, List, length, map};
 ghost use Rattle.std.specs.List.{range_with_len};
+ghost use Rattle.ras_device.specs.declared.act.Act.{Act};
 ghost use Rattle.board_plan.specs.declared.notes.Step.TheVariants.{Hart, Reporter};
 ghost use Rattle.board_plan.specs.Plans.{most_steps};
 ghost use Rattle.board_plan.specs.Run.{round};
-ghost use Rattle.board_play.specs.Tried.{HasTriedMore, Went, is_step};
+ghost use Rattle.board_plan.specs.Step.{wants};
+ghost use Rattle.board_core.specs.Played.{IsReport, listed, state_of};
+ghost use Rattle.board_play.specs.Tried.{Goes, Hands, Plays, is_step, lefts};
 
+use crate::devices::ask;
 use board_core::Board;
 use board_plan::{Step, StepNote};
+use ras_device::{Act, ErrorDevice};
 
 /// Whether a note is that of a step.
 fn is_step(note: &StepNote) -> bool
@@ -19,8 +24,7 @@ fn is_step(note: &StepNote) -> bool
 
 /// Tries a step of a hart, and says whether it made one.
 pub(crate) fn try_hart(board: &mut Board, hart: u8) -> bool
-    ensures went { Went board.old.plan board.old (Hart hart ∷ []) result board.new }
-    ensures plan { board.new.plan ≡ board.old.plan }
+    ensures goes { (left : List (List Act)) → Goes board.old left (Hart hart ∷ []) result board.new left }
 {
     let _harts = board.firmware().harts();
     if hart >= board.plan().harts {
@@ -30,45 +34,74 @@ pub(crate) fn try_hart(board: &mut Board, hart: u8) -> bool
     is_step(&note)
 }
 
-/// Tries a step of a reporter with the act that its list has next, and says whether it made one.
-pub(crate) fn try_reporter(board: &mut Board, reporter: u8) -> bool
-    ensures went { Went board.old.plan board.old (Reporter reporter ∷ []) result board.new }
-    ensures plan { board.new.plan ≡ board.old.plan }
+/// What a try of a reporter is made with: the act that its list has next, or, where it names a device and is wanted,
+/// the one that the device gives. The device of a reporter that isn't wanted is let go.
+fn next_act<D: ErrorDevice>(
+    board: &Board,
+    devices: &mut [Option<D>],
+    reporter: u8,
+    device: Option<u8>,
+) -> Option<Act>
+    ensures hands { Hands device (wants board.now.plan reporter (state_of board.now)) (listed board.now reporter)
+        (lefts D.left devices.old) result (lefts D.left devices.new) }
+    ensures report { IsReport result }
+{
+    match device {
+        None => board.listed(reporter),
+        Some(number) => ask(devices, number, board.wants(reporter)),
+    }
+}
+
+/// Tries a step of a reporter with the act that its list or its device has next, and says whether it made one.
+pub(crate) fn try_reporter<D: ErrorDevice>(
+    board: &mut Board,
+    devices: &mut [Option<D>],
+    reporter: u8,
+) -> bool
+    ensures goes { Goes board.old (lefts D.left devices.old) (Reporter reporter ∷ []) result board.new
+        (lefts D.left devices.new) }
 {
     let _steps = board.steps();
-    if reporter as usize >= board.plan().reporters.as_slice().len() {
+    let Some(decl) = board.plan().reporters.as_slice().get(reporter as usize) else {
         return false;
-    }
-    let act = board.listed(reporter);
+    };
+    let device = decl.device;
+    let act = next_act(board, devices, reporter, device);
     let note = board.reporter_step(reporter, act);
     is_step(&note)
 }
 
 /// Tries a step, and says whether one was made.
-pub(crate) fn try_step(board: &mut Board, step: Step) -> bool
-    ensures went { Went board.old.plan board.old (step ∷ []) result board.new }
-    ensures plan { board.new.plan ≡ board.old.plan }
+pub(crate) fn try_step<D: ErrorDevice>(
+    board: &mut Board,
+    devices: &mut [Option<D>],
+    step: Step,
+) -> bool
+    ensures goes { Goes board.old (lefts D.left devices.old) (step ∷ []) result board.new (lefts D.left devices.new) }
 {
     match step {
         Step::Hart(hart) => try_hart(board, hart),
-        Step::Reporter(reporter) => try_reporter(board, reporter),
+        Step::Reporter(reporter) => try_reporter(board, devices, reporter),
     }
 }
 
 /// Tries these steps, one after another.
-pub(crate) fn try_steps(board: &mut Board, steps: &[Step])
-    ensures went { HasTriedMore board.old.plan board.old steps.now board.new }
-    ensures plan { board.new.plan ≡ board.old.plan }
+pub(crate) fn try_steps<D: ErrorDevice>(
+    board: &mut Board,
+    devices: &mut [Option<D>],
+    steps: &[Step],
+)
+    ensures plays { Plays board.old (lefts D.left devices.old) steps.now board.new (lefts D.left devices.new) }
 {
     for step in steps {
-        try_step(board, *step);
+        try_step(board, devices, *step);
     }
 }
 
 /// Tries each hart once, and says whether one of them made a step.
 fn try_harts(board: &mut Board) -> bool
-    ensures went { Went board.old.plan board.old (map Hart (range_with_len 0 board.old.plan.harts)) result board.new }
-    ensures plan { board.new.plan ≡ board.old.plan }
+    ensures goes { (left : List (List Act)) →
+        Goes board.old left (map Hart (range_with_len 0 board.old.plan.harts)) result board.new left }
 {
     let mut made = false;
     for hart in 0..board.plan().harts {
@@ -79,28 +112,28 @@ fn try_harts(board: &mut Board) -> bool
 }
 
 /// Tries each reporter once, and says whether one of them made a step.
-fn try_reporters(board: &mut Board) -> bool
-    ensures went { Went board.old.plan board.old (map Reporter (range_with_len 0 (length board.old.plan.reporters)))
-        result board.new }
-    ensures plan { board.new.plan ≡ board.old.plan }
+fn try_reporters<D: ErrorDevice>(board: &mut Board, devices: &mut [Option<D>]) -> bool
+    ensures goes { Goes board.old (lefts D.left devices.old)
+        (map Reporter (range_with_len 0 (length board.old.plan.reporters))) result board.new
+        (lefts D.left devices.new) }
 {
     let _steps = board.steps();
     let mut made = false;
     for reporter in 0..board.plan().reporters.as_slice().len() as u8 {
-        let moved = try_reporter(board, reporter);
+        let moved = try_reporter(board, devices, reporter);
         made = made || moved;
     }
     made
 }
 
 /// A round: one try of each hart and then one of each reporter. It says whether one of them made a step.
-pub(crate) fn try_round(board: &mut Board) -> bool
-    ensures went { Went board.old.plan board.old (round board.old.plan) result board.new }
-    ensures plan { board.new.plan ≡ board.old.plan }
+pub(crate) fn try_round<D: ErrorDevice>(board: &mut Board, devices: &mut [Option<D>]) -> bool
+    ensures goes { Goes board.old (lefts D.left devices.old) (round board.old.plan) result board.new
+        (lefts D.left devices.new) }
     ensures few { length board.new.steps ≤ most_steps board.new.plan }
 {
     let harts = try_harts(board);
-    let reporters = try_reporters(board);
+    let reporters = try_reporters(board, devices);
     let _steps = board.steps();
     harts || reporters
 }

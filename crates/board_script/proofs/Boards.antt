@@ -1,6 +1,8 @@
 -- The plan of a script is one that a board can be made of.
-use Rattle.std.proofs.Common.{◌≡◌, ℕ, ◌+◌, ◌*◌, ◌<◌, ◌≤◌, ◌==◌, ◌⊎◌, inl, inr, Bool, true, false, ◌||◌, if◌then◌else◌, List, [], ◌∷◌, ◌++◌, length, slice_get, Option, Some, None, IfOk, Result, Ok, Err, refl, sym, ap, ◌∙◌, subst, arith, length-append, sum_by}
-use Rattle.std.proofs.lemmas.Bool.{eqb-true, eq-eqb, or_left, or_right, or_from, and_from, not_from_false}
+use Rattle.std.proofs.Common.{◌≡◌, ℕ, zero, suc, ◌+◌, ◌*◌, ◌<◌, ◌≤◌, ◌==◌, ◌⊎◌, inl, inr, Bool, true, false, ◌||◌, if◌then◌else◌, List, [], ◌∷◌, ◌++◌, length, slice_get, Option, Some, None, IfOk, Result, Ok, Err, refl, sym, ap, ◌∙◌, subst, arith, length-append, sum_by}
+use Rattle.std.proofs.lemmas.Bool.{eqb-true, eq-eqb, or_left, or_right, or_from, and_from, not_from_false, true≢false}
+use Rattle.std.proofs.lemmas.Option.{none-some}
+use Rattle.std.specs.List.{list_any}
 use Rattle.std.proofs.lemmas.List.Sums.{sum_by-cons}
 use Rattle.std.proofs.lemmas.List.Folds.{list_any-append}
 use Rattle.sse_base.specs.declared.events.EventDecl.{EventDecl}
@@ -13,15 +15,15 @@ use Rattle.board_plan.specs.declared.plan.RecDecl.{RecDecl}
 use Rattle.board_plan.specs.declared.plan.Start.{Start}
 use Rattle.board_plan.specs.declared.plan.Reporter.{Reporter}
 use Rattle.board_plan.specs.declared.plan.Plan.{Plan}
-use Rattle.board_plan.specs.Script.{has_event, total_budget, steps_of, most_harts, most_records, Reads}
-use Rattle.board_plan.specs.Plans.{IsPlan, AreReports}
+use Rattle.board_plan.specs.Script.{has_event, is_number, total_budget, steps_of, most_harts, most_records, Reads}
+use Rattle.board_plan.specs.Plans.{IsPlan, AreNamedOnce, AreReports, named_by}
 use Rattle.board_plan.specs.Run.{acts_from, lists}
 use Rattle.board_plan.specs.declared.notes.Step.{Step}
 use Rattle.board_plan.specs.declared.notes.Step.TheVariants as step
 use Rattle.move_laws.specs.Moves.{GathersByVersion}
 use Rattle.board_script.specs.Reading.{IsOfBoard, EntriesAreOfBoard}
 use Rattle.board_script.proofs.Chains.{Each, Each-at, EachFits}
-use Rattle.board_script.proofs.Fits.{EventFits, RecFits, StartFits, ActFits, SourceFits, ReporterFits, StepFits, PlanFits}
+use Rattle.board_script.proofs.Fits.{DeviceFits, devices_of, EventFits, RecFits, StartFits, ActFits, SourceFits, ReporterFits, StepFits, PlanFits}
 use Rattle.board_script.proofs.Tables.{total_budget-added}
 use Rattle.board_script.proofs.Kept.{script_fits}
 
@@ -91,6 +93,37 @@ limits_low (r ∷ rs) f =
     let sum = sum_by-cons (λ (t : Reporter). t.limit) r rs in
     omega (arith, limits_low rs f.1)
 
+-- ---- Devices ----
+
+-- a device that is named already isn't named again
+not_named_again : (before : List (Option ℕ)) (rs : List Reporter) (k i : ℕ) → list_any (is_number k) before ≡ true
+    → EachFits DeviceFits before (devices_of rs) → named_by (slice_get rs i) ≡ Some k → ⊥
+not_named_again before [] k i there f named = none-some k named
+not_named_again before (r ∷ rs) k zero there f named =
+    true≢false (sym there ∙ subst (DeviceFits before) named f.0)
+not_named_again before (r ∷ rs) k (suc i) there f named =
+    not_named_again (before ++ r.device ∷ []) rs k i
+    (list_any-append (is_number k) before (r.device ∷ []) ∙ or_left _ _ there) f.1 named
+
+named_now : (before : List (Option ℕ)) (device : Option ℕ) (k : ℕ) → device ≡ Some k
+    → list_any (is_number k) (before ++ device ∷ []) ≡ true
+unfolding is_number
+named_now before device k e =
+    ap (λ d. list_any (is_number k) (before ++ d ∷ [])) e
+    ∙ list_any-append (is_number k) before (Some k ∷ [])
+    ∙ or_right _ _ (ap (λ b. b || false) (eq-eqb k k refl))
+
+named_once : (before : List (Option ℕ)) (rs : List Reporter) → EachFits DeviceFits before (devices_of rs)
+    → AreNamedOnce rs
+named_once before [] f i j k here there = absurd (none-some k here)
+named_once before (r ∷ rs) f zero zero k here there = refl
+named_once before (r ∷ rs) f zero (suc j) k here there =
+    absurd (not_named_again (before ++ r.device ∷ []) rs k j (named_now before r.device k here) f.1 there)
+named_once before (r ∷ rs) f (suc i) zero k here there =
+    absurd (not_named_again (before ++ r.device ∷ []) rs k i (named_now before r.device k there) f.1 here)
+named_once before (r ∷ rs) f (suc i) (suc j) k here there =
+    ap suc (named_once (before ++ r.device ∷ []) rs f.1 i j k here there)
+
 -- ---- The whole ----
 
 pub records_few : (version : ℕ) → most_records version ≤ 63
@@ -139,6 +172,7 @@ script_is_plan text p e =
           };
       controls = λ i r is_r. Each-at _ p.recs i r (controls_low p.banks [] p.recs f.recs) is_r;
       few_reporters = f.reporters.few;
+      named_once = named_once [] p.reporters f.reporters.devices;
       few_steps =
           let starts = budgets_low p.harts [] p.starts none f.starts in
           let limits = limits_low p.reporters f.reporters.each in

@@ -1,4 +1,5 @@
-//! What a reporter does: the errors and raised events that come to a board from outside, and the devices that give them.
+//! What a reporter does: the errors and raised events that come to a board from outside, and the devices that give
+//! them.
 #![tactic(auto)]
 
 mod act;

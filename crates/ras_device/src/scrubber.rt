@@ -19,8 +19,8 @@ pub struct Scrubber {
 }
 
 impl Scrubber {
-    /// A device of `n` corrected errors of a record. Error i has code 1, struck at address 4096 i, and has i as its info
-    /// and its time.
+    /// A device of `n` corrected errors of a record. Error i has code 1, struck at address 4096 i, and has i as its
+    /// info and its time.
     pub fn new(bank: u8, rec: u8, n: u16) -> Scrubber
         ensures { (⟦<Scrubber as ErrorDevice>⟧.left result).acts ≡ scrubs bank rec n }
     {

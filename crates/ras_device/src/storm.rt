@@ -20,9 +20,9 @@ pub struct Storm {
 }
 
 impl Storm {
-    /// A device of `n` errors over so many records of a bank, at least one. Error i comes to record i modulo `recs`; its
-    /// severity is CE, UED and UEC in turn, its priority i / 3 modulo 4 and its code 2; it struck at address 0x100000 +
-    /// 64 i, and has i as its info and its time.
+    /// A device of `n` errors over so many records of a bank, at least one. Error i comes to record i modulo `recs`;
+    /// its severity is CE, UED and UEC in turn, its priority i / 3 modulo 4 and its code 2; it struck at address
+    /// 0x100000 + 64 i, and has i as its info and its time.
     pub fn new(bank: u8, recs: u8, n: u16) -> Storm
         requires { 0 < recs }
         ensures { (⟦<Storm as ErrorDevice>⟧.left result).acts ≡ storms bank recs n }

@@ -1,14 +1,14 @@
 -- Each round so far made a step.
-use Rattle.std.proofs.Common.{◌≡◌, ◌-◌, length}
+use Rattle.std.proofs.Common.{◌-◌, length}
 use Rattle.board_plan.specs.Plans.{most_steps}
-use Rattle.board_play.specs.Tried.{IsAfter}
+use Rattle.board_play.specs.Tried.{AreFollowed, lefts}
 use Rattle.board_play.proofs.rounds.try_rounds.Given as goal
 
 abbrev pub invariant-loop : goal.invariant-loop
-invariant-loop l = record {
-  after : IsAfter l.fn.board.plan l.board;
-  plan : l.board.plan ≡ l.fn.board.plan;
+invariant-loop g l = record {
+  followed : AreFollowed l.fn.board (lefts g.D.ErrorDevice.left l.fn.devices) l.board
+      (lefts g.D.ErrorDevice.left l.devices);
 }
 
 abbrev pub decreases-loop : goal.decreases-loop
-decreases-loop l = most_steps l.board.plan - length l.board.steps
+decreases-loop g l = most_steps l.board.plan - length l.board.steps

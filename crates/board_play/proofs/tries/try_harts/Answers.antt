@@ -1,7 +1,10 @@
 -- One hart more.
-use Rattle.std.proofs.Common.{Bool, ◌||◌, sym, ap, ◌∙◌}
+use Rattle.std.proofs.Common.{◌≡◌, ℕ, Bool, ◌||◌, [], map, sym, ap, ◌∙◌, subst, arith}
+use Rattle.std.specs.List.{range_with_len}
+use Rattle.board_plan.specs.declared.plan.Plan.{Plan}
+use Rattle.board_play.specs.Tried.{Goes}
 use Rattle.board_plan.specs.declared.notes.Step.TheVariants.{Hart}
-use Rattle.board_play.proofs.Trying.{went-more}
+use Rattle.board_play.proofs.Playing.{goes-more}
 use Rattle.board_play.proofs.tries.try_harts.Goals as goal
 use Rattle.board_play.proofs.tries.try_harts.Goals.{then-made, else-made}
 
@@ -9,11 +12,24 @@ pub loop-hart-preserved : goal.loop-hart-preserved
 loop-hart-preserved c =
     let moved = c.try_hart-moved.result in
     record {
-      went = went-more _ _ _ _ _ Hart c.loop-hart.hart c.loop-hart.made moved c.if-made.made c.loop-hart.invariant.plan
-          c.loop-hart.invariant.went c.try_hart-moved.ensures.went
+      goes = λ left.
+          goes-more _ _ _ _ _ _ Hart c.loop-hart.hart c.loop-hart.made moved c.if-made.made
+          (c.loop-hart.invariant.goes left) (c.try_hart-moved.ensures.goes left)
           (elim c.if-made.branch [
             | then-made w ↦ ap (λ (b : Bool). b || moved) w.if-made.true ∙ sym w.if-made.true ∙ sym w.made-is
             | else-made w ↦ ap (λ (b : Bool). b || moved) w.if-made.false ∙ sym w.made-is
           ]);
-      plan = c.try_hart-moved.ensures.plan ∙ c.loop-hart.invariant.plan;
+      plan = (c.try_hart-moved.ensures.goes []).plan ∙ c.loop-hart.invariant.plan;
+    }
+
+pub returns : goal.returns
+returns c =
+    let before = c.args.board.now in
+    let all : c.loop-hart.hart ≡ before.plan.harts =
+    omega (arith, c.loop-hart-test.false, c.loop-hart.auto.hart-end, ap (λ (p : Plan). p.harts) c.plan.ensures) in
+    record {
+      goes = λ left.
+          subst
+          (λ (n : ℕ). Goes before left (map Hart (range_with_len 0 n)) c.loop-hart.made c.loop-hart.board left) all
+          (c.loop-hart.invariant.goes left);
     }

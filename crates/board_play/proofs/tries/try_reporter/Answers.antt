@@ -1,21 +1,44 @@
 -- A reporter's try is a step or is passed over.
-use Rattle.std.proofs.Common.{List, length, ap, ◌∙◌, arith}
+use Rattle.std.proofs.Common.{List, length, is_some, sym, ap, ◌∙◌, arith}
+use Rattle.std.specs.Prelude.{slice_get}
+use Rattle.std.proofs.lemmas.Bool.{ltb-false}
 use Rattle.board_plan.specs.declared.plan.Reporter.{Reporter}
 use Rattle.board_plan.specs.declared.plan.Plan.{Plan}
-use Rattle.board_play.proofs.Trying.{reporter-went, no-reporter}
+use Rattle.board_play.specs.Tried.{lefts}
+use Rattle.board_play.proofs.Asking.{is_there, listed_handed, names_device}
+use Rattle.board_play.proofs.Trying.{no-reporter, reporter-goes}
 use Rattle.board_play.proofs.tries.try_reporter.Goals as goal
 
-pub returns-then-reporter-as_slice-clause-went : goal.returns-then-reporter-as_slice-clause-went
-returns-then-reporter-as_slice-clause-went c =
-    let many = ap (λ (rs : List Reporter). length rs) (c.as_slice.ensures ∙ ap (λ (p : Plan). p.reporters)
-    c.plan.ensures) in
-    no-reporter c.args.board.now c.args.reporter (omega (arith, c.if-reporter-as_slice.true, many))
+pub returns-in_default : goal.returns-in_default
+returns-in_default g c =
+    let same = c.as_slice.ensures ∙ ap (λ (p : Plan). p.reporters) c.plan.ensures in
+    record {
+      goes = no-reporter c.args.board.now c.args.reporter (lefts g.D.ErrorDevice.left c.args.devices.now) (omega (
+        arith,
+        ltb-false c.args.reporter (length c.as_slice.result.now)
+            (sym c.get.ensures.lookup.0 ∙ ap is_some c.in_default.is),
+        ap (λ (rs : List Reporter). length rs) same,
+      ));
+    }
 
-pub returns-clause-went : goal.returns-clause-went
-returns-clause-went c =
-    let many = ap (λ (rs : List Reporter). length rs) (c.as_slice.ensures ∙ ap (λ (p : Plan). p.reporters)
-    c.plan.ensures) in
-    reporter-went c.args.board.now c.args.reporter c.listed-act.result c.reporter_step-note.new.self
-    c.reporter_step-note.result c.is_step.result c.steps-steps.ensures.played
-    (omega (arith, c.if-reporter-as_slice.false, many)) c.listed-act.ensures.act c.reporter_step-note.ensures.next
-    c.reporter_step-note.ensures.note c.is_step.ensures
+pub reporter_step-note-requires-clause-list : goal.reporter_step-note-requires-clause-list
+reporter_step-note-requires-clause-list g c list =
+    let same = c.as_slice.ensures ∙ ap (λ (p : Plan). p.reporters) c.plan.ensures in
+    listed_handed (slice_get c.args.board.now.plan.reporters c.args.reporter) c.in-Some.decl.now.device _ _ _ _ _
+    (names_device c.args.board.now.plan.reporters c.as_slice.result.now c.args.reporter c.in-Some.decl.now _ same
+    c.in-Some.ensures.lookup.0 c.in-Some.ensures.lookup.1) list c.next_act-act.ensures.hands
+
+pub returns : goal.returns
+returns g c =
+    let same = c.as_slice.ensures ∙ ap (λ (p : Plan). p.reporters) c.plan.ensures in
+    let rs = c.args.board.now.plan.reporters in
+    record {
+      goes = reporter-goes c.args.board.now c.args.reporter c.in-Some.decl.now.device
+          (lefts g.D.ErrorDevice.left c.args.devices.now) (lefts g.D.ErrorDevice.left c.next_act-act.new.devices)
+          c.next_act-act.result c.reporter_step-note.new.self c.reporter_step-note.result c.is_step.result
+          c.steps-steps.ensures.played
+          (is_there rs c.as_slice.result.now c.args.reporter same c.in-Some.ensures.lookup.0)
+          (names_device rs c.as_slice.result.now c.args.reporter c.in-Some.decl.now _ same c.in-Some.ensures.lookup.0
+          c.in-Some.ensures.lookup.1) c.next_act-act.ensures.hands c.reporter_step-note.ensures.next
+          c.reporter_step-note.ensures.note c.is_step.ensures;
+    }

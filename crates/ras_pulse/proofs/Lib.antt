@@ -1,0 +1,2 @@
+-- Lists that take turns, and the pulses before an overflow.
+pub mod Turns
