@@ -8,7 +8,6 @@ ghost use Rattle.board_plan.specs.Plans.{IsPlan};
 ghost use Rattle.board_plan.specs.Script.{IsRefused};
 ghost use Rattle.board_core.specs.Played.{AreListsReports};
 ghost use Rattle.board_lock.specs.Hiring.{left_in};
-ghost use Rattle.board_lock.specs.Once.{AreNamedOnce};
 ghost use Rattle.board_run.specs.Play.{
   limit,
   Answers,
@@ -53,7 +52,6 @@ fn write_run<R: Threads + Wait + Sync, K: Sink, G: Gate + Sync, D: ErrorDevice>(
     gate: &G,
 ) -> Status
     requires plan { IsPlan plan.now }
-    requires once { AreNamedOnce plan.now.reporters }
     requires reports { AreListsReports plan.now }
     ensures wrote { WroteRun (left_in D.left devices.items) plan.now (K.written sink.old) (K.written sink.new) result }
     ensures fault { result ≡ Status.WriteFault → Rose (K.faults sink.old) (K.faults sink.new) }
