@@ -2,3 +2,4 @@
 pub mod Joined
 pub mod Moved
 pub mod Written
+pub mod Finished

@@ -4,8 +4,10 @@
 mod command;
 mod outputs;
 mod playing;
+mod running;
 mod status;
 
 pub use command::{Command, Shown};
 pub use playing::play;
+pub use running::run;
 pub use status::Status;
