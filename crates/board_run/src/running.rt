@@ -130,7 +130,8 @@ pub fn run<R: Threads + Wait + Sync, S: Source, K: Sink, G: Gate + Sync>(
     // The whole report of a run is appended in which each step was made and after which nobody has one, and nothing is
     // left in the source.
     ensures ok { result ≡ Status.Ok → IfSome (S.left source.old)
-        (λ text. WritesRun (left_in left devices.items) text (K.written sink.old) (K.written sink.new)) }
+        (λ text. WritesRun (left_in ⟦<Box<dyn ErrorDevice + Send> as ErrorDevice>⟧.left devices.items) text
+        (K.written sink.old) (K.written sink.new)) }
     ensures ended { result ≡ Status.Ok → IsAtEnd (S.left source.new) }
 
     // Why each other answer comes.
@@ -143,7 +144,8 @@ pub fn run<R: Threads + Wait + Sync, S: Source, K: Sink, G: Gate + Sync>(
     ensures within { is_of_text result ≡ true → IfSome (S.left source.old) (λ text. length text ≤ limit) }
     ensures write_fault { result ≡ Status.WriteFault → Rose (K.faults sink.old) (K.faults sink.new) }
     ensures front { result ≡ Status.WriteFault → IfSome (S.left source.old)
-        (λ text. WritesRunFront (left_in left devices.items) text (K.written sink.old) (K.written sink.new)) }
+        (λ text. WritesRunFront (left_in ⟦<Box<dyn ErrorDevice + Send> as ErrorDevice>⟧.left devices.items) text
+        (K.written sink.old) (K.written sink.new)) }
 
     // No fault is passed over.
     ensures source_kept { is_read_fault result ≡ false → S.faults source.new ≡ S.faults source.old }
