@@ -6,7 +6,7 @@ use Rattle.std.proofs.lemmas.List.FromFn.{map-range_with_len_more}
 use Rattle.ras_device.specs.declared.act.Act.{Act}
 use Rattle.board_plan.specs.declared.plan.Reporter as plan_reporter
 use Rattle.board_plan.specs.declared.plan.Plan.{Plan}
-use Rattle.board_lock.specs.Once.{AreNamedOnce, named_by}
+use Rattle.board_plan.specs.Plans.{AreNamedOnce, named_by}
 use Rattle.board_lock.specs.Hand.{Hand}
 use Rattle.board_lock.specs.Hiring.{device_acts, hand_for, reporter_hand, without_device}
 

@@ -1,7 +1,6 @@
 -- What a worker has at hand, what its tries make of a board, and what a list of tries makes of one.
 pub mod Hand
 pub mod Hiring
-pub mod Once
 pub mod Replaying
 pub mod Trying
 pub mod Views

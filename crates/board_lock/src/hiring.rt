@@ -3,7 +3,6 @@
 ghost use Rattle.std.specs.Prelude.{◌≡◌, ◌+◌, ◌<◌, ◌++◌, IfOk, OnOk, Some, length, map};
 ghost use Rattle.std.specs.List.{range_with_len};
 ghost use Rattle.board_plan.specs.Plans.{IsPlan};
-ghost use Rattle.board_lock.specs.Once.{AreNamedOnce};
 ghost use Rattle.board_lock.specs.Hand.{hart_hand, rewound};
 ghost use Rattle.board_lock.specs.Hiring.{device_acts, hand_for, hired, left_in, reporter_hand, without_device};
 ghost use Rattle.board_lock.specs.Views.{left_or_none};
@@ -78,8 +77,7 @@ fn hire_reporters<D: ErrorDevice>(
     shelf: &mut [Option<D>],
     workers: &mut List<Worker<D>>,
 ) -> Result<(), NoMemory>
-    requires plan { IsPlan plan.now }
-    requires once { AreNamedOnce plan.now.reporters }
+    requires { IsPlan plan.now }
     ensures { OnOk result (map (hand_of D.left) workers.new ≡ map (hand_of D.left) workers.old
         ++ map (reporter_hand plan.now (map (left_or_none D.left) shelf.old))
         (range_with_len 0 (length plan.now.reporters))) }
@@ -99,8 +97,7 @@ pub fn hire<D: ErrorDevice>(
     plan: &Plan,
     devices: Vec<D>,
 ) -> Result<Vec<Worker<D>>, NoMemory>
-    requires plan { IsPlan plan.now }
-    requires once { AreNamedOnce plan.now.reporters }
+    requires { IsPlan plan.now }
     ensures { IfOk result (λ v. map (hand_of D.left) v.items ≡ hired plan.now (left_in D.left devices.items)) }
 {
     let mut shelf = shelf_of(alloc, devices)?;

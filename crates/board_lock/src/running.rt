@@ -3,7 +3,6 @@
 ghost use Rattle.std.specs.Prelude.{◌≡◌, IfOk};
 ghost use Rattle.board_plan.specs.Plans.{IsPlan};
 ghost use Rattle.board_core.specs.Played.{AreListsReports};
-ghost use Rattle.board_lock.specs.Once.{AreNamedOnce};
 ghost use Rattle.board_lock.specs.Hiring.{IsWholeRun, left_in};
 
 use crate::gate::Gate;
@@ -32,7 +31,6 @@ pub fn run_plan<R: Threads + Wait + Sync, G: Gate + Sync, D: ErrorDevice>(
     gate: &G,
 ) -> Result<Board, NoMemory>
     requires plan { IsPlan plan.now }
-    requires once { AreNamedOnce plan.now.reporters }
     requires reports { AreListsReports plan.now }
     ensures { IfOk result (λ b. IsWholeRun plan.now (left_in D.left devices.items) b) }
 {

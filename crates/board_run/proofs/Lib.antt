@@ -6,3 +6,4 @@ pub mod Listing
 pub mod Loads
 pub mod Moved
 pub mod Written
+pub mod Finished

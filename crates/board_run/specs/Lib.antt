@@ -3,3 +3,4 @@ pub mod Commands
 pub mod Retired
 pub mod Play
 pub mod Parts
+pub mod Run

@@ -8,7 +8,6 @@ ghost use Rattle.board_plan.specs.Plans.{IsPlan};
 ghost use Rattle.board_plan.specs.Script.{IsRefused};
 ghost use Rattle.board_core.specs.Played.{AreListsReports};
 ghost use Rattle.board_lock.specs.Hiring.{left_in};
-ghost use Rattle.board_lock.specs.Once.{AreNamedOnce};
 ghost use Rattle.board_run.specs.Play.{
   limit,
   Answers,
@@ -53,7 +52,6 @@ fn write_run<R: Threads + Wait + Sync, K: Sink, G: Gate + Sync, D: ErrorDevice>(
     gate: &G,
 ) -> Status
     requires plan { IsPlan plan.now }
-    requires once { AreNamedOnce plan.now.reporters }
     requires reports { AreListsReports plan.now }
     ensures wrote { WroteRun (left_in D.left devices.items) plan.now (K.written sink.old) (K.written sink.new) result }
     ensures fault { result ≡ Status.WriteFault → Rose (K.faults sink.old) (K.faults sink.new) }
@@ -132,7 +130,8 @@ pub fn run<R: Threads + Wait + Sync, S: Source, K: Sink, G: Gate + Sync>(
     // The whole report of a run is appended in which each step was made and after which nobody has one, and nothing is
     // left in the source.
     ensures ok { result ≡ Status.Ok → IfSome (S.left source.old)
-        (λ text. WritesRun (left_in left devices.items) text (K.written sink.old) (K.written sink.new)) }
+        (λ text. WritesRun (left_in ⟦<Box<dyn ErrorDevice + Send> as ErrorDevice>⟧.left devices.items) text
+        (K.written sink.old) (K.written sink.new)) }
     ensures ended { result ≡ Status.Ok → IsAtEnd (S.left source.new) }
 
     // Why each other answer comes.
@@ -145,7 +144,8 @@ pub fn run<R: Threads + Wait + Sync, S: Source, K: Sink, G: Gate + Sync>(
     ensures within { is_of_text result ≡ true → IfSome (S.left source.old) (λ text. length text ≤ limit) }
     ensures write_fault { result ≡ Status.WriteFault → Rose (K.faults sink.old) (K.faults sink.new) }
     ensures front { result ≡ Status.WriteFault → IfSome (S.left source.old)
-        (λ text. WritesRunFront (left_in left devices.items) text (K.written sink.old) (K.written sink.new)) }
+        (λ text. WritesRunFront (left_in ⟦<Box<dyn ErrorDevice + Send> as ErrorDevice>⟧.left devices.items) text
+        (K.written sink.old) (K.written sink.new)) }
 
     // No fault is passed over.
     ensures source_kept { is_read_fault result ≡ false → S.faults source.new ≡ S.faults source.old }

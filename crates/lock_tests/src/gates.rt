@@ -2,8 +2,8 @@
 
 use crate::counted::{Counted, Number, number};
 use crate::reports::{comes_before, has_line, plan_of, report_of};
-use board_lock::{Gate, OpenGate, hire, replay, run_plan};
 use board_core::Board;
+use board_lock::{Gate, OpenGate, hire, replay, run_plan};
 use board_plan::Step;
 use ras_device::{ErrorDevice, Scrubber};
 use std::alloc::{AllocError, Global};
@@ -81,11 +81,7 @@ fn comes(number: &AtomicU64) -> bool {
 }
 
 /// One device that counts how often it is asked.
-fn devices(
-    alloc: Global,
-    n: u16,
-    asks: &Number,
-) -> Result<Vec<Counted<Scrubber>>, AllocError> {
+fn devices(alloc: Global, n: u16, asks: &Number) -> Result<Vec<Counted<Scrubber>>, AllocError> {
     let mut devices = Vec::new(alloc);
     devices.push(Counted::new(Scrubber::new(0, 0, n), Arc::try_clone(asks)?))?;
     Ok(devices)
@@ -168,9 +164,18 @@ fn gate_count(rt: HostRuntime) -> Result<(), Fail> {
     assert!(rt; gate.arrivals.load(Ordering::SeqCst) >= 168);
     assert!(rt; gate.asked_by_then.load(Ordering::SeqCst) >= 100);
     let text = report_of(alloc, &board)?;
-    assert!(rt; has_line(text.as_slice(), b"board 1 harts 4 banks 3 reporters 2 steps 168"));
-    assert!(rt; has_line(text.as_slice(),
-        b"fates made 101 stray 0 disabled 0 counted 100 drained 1 overwritten 0 kept 0 stands 0"));
+    assert!(rt;
+        has_line(
+            text.as_slice(),
+            b"board 1 harts 4 banks 3 reporters 2 steps 168"
+        )
+    );
+    assert!(rt;
+        has_line(
+            text.as_slice(),
+            b"fates made 101 stray 0 disabled 0 counted 100 drained 1 overwritten 0 kept 0 stands 0"
+        )
+    );
     assert!(rt; has_line(text.as_slice(), b"word 0x80000100 0x1"));
     Ok(())
 }
@@ -209,7 +214,12 @@ fn gate_unplug(rt: HostRuntime) -> Result<(), Fail> {
     assert_eq!(rt; asks.load(Ordering::SeqCst), 0);
     assert_eq!(rt; board.steps(), [Step::Hart(0)].as_slice());
     let text = report_of(alloc, &board)?;
-    assert!(rt; has_line(text.as_slice(), b"board 1 harts 1 banks 0 reporters 1 steps 1"));
+    assert!(rt;
+        has_line(
+            text.as_slice(),
+            b"board 1 harts 1 banks 0 reporters 1 steps 1"
+        )
+    );
     Ok(())
 }
 
@@ -260,6 +270,9 @@ fn the_same_steps_again_give_the_same_report(rt: HostRuntime) -> Result<(), Fail
     let mut again = Board::new(alloc, &plan)?;
     let mut workers = hire(alloc, &plan, devices(alloc, 100, &number(alloc)?)?)?;
     replay(board.steps(), workers.as_mut_slice(), &mut again);
-    assert_eq!(rt; report_of(alloc, &again)?.as_slice(), report_of(alloc, &board)?.as_slice());
+    assert_eq!(rt;
+        report_of(alloc, &again)?.as_slice(),
+        report_of(alloc, &board)?.as_slice()
+    );
     Ok(())
 }

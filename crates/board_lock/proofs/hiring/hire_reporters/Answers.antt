@@ -24,5 +24,5 @@ loop-number-preserved g c =
           c.in_ok-worker.ensures.hand)
           (ap (map hand) c.in_ok-push.ensures.ok ∙ map_push hand c.loop-number.workers w);
       kept = kept_more plan r (map acts c.args.shelf.now) (map acts c.loop-number.shelf)
-          (map acts c.hire_reporter.new.shelf) d c.requires.once declared kept c.hire_reporter.ensures.shelf;
+          (map acts c.hire_reporter.new.shelf) d c.requires.named_once declared kept c.hire_reporter.ensures.shelf;
     }
