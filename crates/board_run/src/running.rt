@@ -8,8 +8,8 @@ ghost use Rattle.board_plan.specs.Plans.{IsPlan};
 ghost use Rattle.board_plan.specs.Script.{IsRefused};
 ghost use Rattle.board_core.specs.Played.{AreListsReports};
 ghost use Rattle.board_lock.specs.Hiring.{left_in};
+ghost use Rattle.board_run.specs.Commands.{limit};
 ghost use Rattle.board_run.specs.Play.{
-  limit,
   Answers,
   is_silent,
   is_of_text,
