@@ -31,7 +31,13 @@ fn is_as_shown<R: Files + AllocGlobal>(rt: &R, script: &str, report: &str) -> io
     };
     let words = ["play", "--trace"];
     let alloc = rt.alloc();
-    let status = play(alloc, words.as_slice(), &mut source, &mut sink, Vec::new(alloc));
+    let status = play(
+        alloc,
+        words.as_slice(),
+        &mut source,
+        &mut sink,
+        Vec::new(alloc),
+    );
     Ok(status == Status::Ok && sink.bytes() == wanted.as_slice())
 }
 

@@ -72,13 +72,14 @@ fn act<R: AllocGlobal + Threads + Wait + Sync, S: Source, K: Sink>(
 }
 
 /// Does what the words say with what comes in. What waits in the sink goes out before the ending is chosen.
-fn answer<R: Env + Input + Print + AllocGlobal + Threads + Wait + Sync>(rt: &R) -> Result<(), Failure> {
+fn answer<R: Env + Input + Print + AllocGlobal + Threads + Wait + Sync>(
+    rt: &R,
+) -> Result<(), Failure> {
     let words = words(rt)?;
     let texts = texts(rt, words.as_slice())?;
     let mut source = StdSource::new(rt.reader());
     let mut sink = StdSink::new(rt.alloc(), io::writer(rt)).map_err(|_| Failure::NoMemory)?;
-    let status =
-        act(rt, texts.as_slice(), &mut source, &mut sink).map_err(|_| Failure::NoMemory)?;
+    let status = act(rt, texts.as_slice(), &mut source, &mut sink).map_err(|_| Failure::NoMemory)?;
     let flushed = sink.flush();
     ended(status, flushed)
 }

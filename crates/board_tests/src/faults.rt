@@ -102,7 +102,13 @@ fn writes_a_front_to_a_sink_that_is_full(rt: HostRuntime) -> Result<(), Fail> {
             writes: 0,
             faults: 0,
         };
-        let status = play(rt.alloc(), PLAY, &mut source, &mut sink, Vec::new(rt.alloc()));
+        let status = play(
+            rt.alloc(),
+            PLAY,
+            &mut source,
+            &mut sink,
+            Vec::new(rt.alloc()),
+        );
         assert_eq!(rt; status, Status::WriteFault);
         assert!(rt; sink.taken.as_slice() == &REPORT[..room]);
     }
