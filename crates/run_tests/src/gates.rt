@@ -184,6 +184,7 @@ fn gate_order(rt: HostRuntime) -> Result<(), Fail> {
     let devices = scrubber(alloc, &count(alloc)?)?;
     let ran = run_of(&rt, alloc, REALISTIC, devices, &gate)?;
     assert_eq!(rt; gate.seen.load(Ordering::SeqCst), 1);
+    assert!(rt; ran.has_lines(&REALISTIC_LINES));
     let schedule = with_schedule(alloc, b"", ran.bytes.as_slice())?;
     assert!(rt; comes_before(schedule.as_slice(), b"h1", b"h0"));
     Ok(())
