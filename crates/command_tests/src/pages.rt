@@ -32,6 +32,20 @@ schedule r0 h0 h0 h0 h0 h0 h0 h0 r0
 schedule h0 h0 h0 h0 h0 h0 h0 h0 h0 h0 h0 h0
 ";
 
+// an event and no error
+const NO_ERROR: &[u8] = b"board 1 1
+event 0xffff0000 inject
+at 0x1000
+op sbi 0x535345 8
+op sbi 0x535345 2 0xffff0000 0x2000 7
+op sbi 0x535345 4 0xffff0000
+op sbi 0x535345 7 0xffff0000 0
+at 0x2000
+op inc 0x80000000
+op sbi 0x535345 6
+start 0 0x1000 100
+";
+
 // four errors on three pages, the highest page first
 const FALLING: &[u8] = b"board 1 1
 event 0x0 noinject
@@ -68,7 +82,7 @@ fn counts_published_copies_alone(rt: HostRuntime) -> Result<(), Fail> {
     let stood = b"page 0x0 corrected 1 uncorrected 1\n";
     assert!(rt; writes(rt.alloc(), &["pages", "1"], TORN, torn)?);
     assert!(rt; writes(rt.alloc(), &["pages", "1"], STOOD, stood)?);
-    assert!(rt; writes(rt.alloc(), &["pages", "1"], b"board 1 1\n", b"")?);
+    assert!(rt; writes(rt.alloc(), &["pages", "1"], NO_ERROR, b"")?);
     Ok(())
 }
 

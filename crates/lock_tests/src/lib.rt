@@ -1,10 +1,8 @@
-//! Tests of workers and of boards behind a lock, in one thread and in many.
+//! Tests of workers, of boards behind a lock, and of steps that are tried again.
 #![tactic(auto)]
 
 #[cfg(test)]
-mod counted;
-#[cfg(test)]
-mod gates;
+mod replays;
 #[cfg(test)]
 mod reports;
 #[cfg(test)]

@@ -5,7 +5,7 @@ ghost use Rattle.board_plan.specs.Plans.{IsPlan};
 ghost use Rattle.board_core.specs.Played.{AreListsReports};
 
 use board_core::Board;
-use board_plan::{Plan, Step};
+use board_plan::Plan;
 use board_report::report;
 use board_script::read;
 use ras_io::MemSink;
@@ -28,23 +28,4 @@ pub(crate) fn report_of(alloc: Global, board: &Board) -> Result<Vec<u8>, Fail> {
     let mut sink = MemSink::new(alloc, 65_536, Vec::new(alloc))?;
     report(board, false, &mut sink)?;
     Ok(Vec::from_slice(alloc, sink.bytes())?)
-}
-
-/// Whether a text has a line that begins so.
-pub(crate) fn has_line(text: &[u8], front: &[u8]) -> bool {
-    text.split(|byte| *byte == b'\n')
-        .any(|line| line.starts_with(front))
-}
-
-/// Whether an entry of one actor stands before the first one of another.
-pub(crate) fn comes_before(steps: &[Step], one: Step, other: Step) -> bool {
-    for step in steps {
-        if *step == one {
-            return true;
-        }
-        if *step == other {
-            return false;
-        }
-    }
-    false
 }

@@ -4,6 +4,8 @@
 #[cfg(test)]
 mod counted;
 #[cfg(test)]
+mod kinds;
+#[cfg(test)]
 mod plays;
 #[cfg(test)]
 mod realistic;

@@ -12,8 +12,8 @@ use std::test::Fail;
 /// How many bytes are written at most.
 const ROOM: usize = 65_536;
 
-// a hart unplugs the device whose error is being drained
-const UNPLUGGED: &[u8] = b"board 1 2
+/// A hart unplugs the device whose error is being drained.
+pub(crate) const UNPLUGGED: &[u8] = b"board 1 2
 bank 0 local 1
 record 0 0 0x95 0
 op unplug 0
@@ -32,8 +32,8 @@ const UNPLUGGED_LINES: [&str; 5] = [
     "fates made 1 stray 0 disabled 0 counted 0 drained 1 overwritten 0 kept 0 stands 0",
 ];
 
-// two reporters name devices in the other order
-const CROSSED: &[u8] = b"board 1 1
+/// Two reporters name devices in the other order.
+pub(crate) const CROSSED: &[u8] = b"board 1 1
 bank 0 local 1
 record 0 0 0x95 0
 reporter device 1 5
@@ -61,18 +61,19 @@ fn has_lines(bytes: &[u8], wanted: &[&str]) -> bool {
     found == wanted.len()
 }
 
-fn count(alloc: Global) -> Result<Count, Fail> {
+/// A count that begins at 0.
+pub(crate) fn count(alloc: Global) -> Result<Count, Fail> {
     Ok(Arc::new(alloc, AtomicU64::new(0))?)
 }
 
-/// What came of a play with two devices, of which nobody may name the second, a silent one.
+/// What came of a play with two devices.
 #[derive(Drop)]
 pub(crate) struct Seen {
     status: Status,
     bytes: Vec<u8>,
     /// How often the first device was asked.
     pub(crate) asks: u64,
-    /// How many devices were dropped.
+    /// How many devices were dropped that count their drops where the first does.
     pub(crate) drops: u64,
 }
 
@@ -83,37 +84,65 @@ impl Seen {
     }
 }
 
-/// Plays a text with a device and a silent one.
-pub(crate) fn outcome(
+/// A device that counts.
+pub(crate) fn counted<D: ErrorDevice>(
+    inner: D,
+    asks: &Count,
+    drops: &Count,
+) -> Result<Counted<D>, Fail> {
+    Ok(Counted {
+        inner,
+        asks: asks.clone()?,
+        drops: drops.clone()?,
+    })
+}
+
+/// Plays a text with these devices: the answer, and what was written.
+fn played(
     alloc: Global,
     words: &[&str],
     text: &[u8],
-    device: Scrubber,
-) -> Result<Seen, Fail> {
-    let asks = count(alloc)?;
-    let drops = count(alloc)?;
-    let mut devices: Vec<Box<dyn ErrorDevice + Send>> = Vec::new(alloc);
-    let first = Counted {
-        inner: device,
-        asks: asks.clone()?,
-        drops: drops.clone()?,
-    };
-    devices.push(Box::new(alloc, first)?)?;
-    let second = Counted {
-        inner: Silent::new(),
-        asks: count(alloc)?,
-        drops: drops.clone()?,
-    };
-    devices.push(Box::new(alloc, second)?)?;
+    devices: Vec<Box<dyn ErrorDevice + Send>>,
+) -> Result<(Status, Vec<u8>), Fail> {
     let mut source = MemSource::new(Vec::from_slice(alloc, text)?, 4096, Vec::new(alloc));
     let mut sink = MemSink::new(alloc, ROOM, Vec::new(alloc))?;
     let status = play(alloc, words, &mut source, &mut sink, devices);
+    Ok((status, Vec::from_slice(alloc, sink.bytes())?))
+}
+
+/// Plays a text with two devices that count.
+pub(crate) fn outcome_of_two<D: ErrorDevice + 'static, E: ErrorDevice + 'static>(
+    alloc: Global,
+    words: &[&str],
+    text: &[u8],
+    first: Counted<D>,
+    second: Counted<E>,
+) -> Result<Seen, Fail> {
+    let asks = first.asks.clone()?;
+    let drops = first.drops.clone()?;
+    let mut devices: Vec<Box<dyn ErrorDevice + Send>> = Vec::new(alloc);
+    devices.push(Box::new(alloc, first)?)?;
+    devices.push(Box::new(alloc, second)?)?;
+    let (status, bytes) = played(alloc, words, text, devices)?;
     Ok(Seen {
         status,
-        bytes: Vec::from_slice(alloc, sink.bytes())?,
+        bytes,
         asks: asks.load(Ordering::SeqCst),
         drops: drops.load(Ordering::SeqCst),
     })
+}
+
+/// Plays a text with a device and a silent one.
+pub(crate) fn outcome<D: ErrorDevice + 'static>(
+    alloc: Global,
+    words: &[&str],
+    text: &[u8],
+    device: D,
+) -> Result<Seen, Fail> {
+    let drops = count(alloc)?;
+    let first = counted(device, &count(alloc)?, &drops)?;
+    let second = counted(Silent::new(), &count(alloc)?, &drops)?;
+    outcome_of_two(alloc, words, text, first, second)
 }
 
 // what comes of a trace with a scrubber of two errors

@@ -1,0 +1,2 @@
+-- A raised event is no error.
+pub mod Raises

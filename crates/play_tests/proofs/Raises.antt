@@ -1,0 +1,12 @@
+-- A raised event is no error.
+use Rattle.std.proofs.Common.{◌≡◌, ℕ, zero, suc, List, [], ◌∷◌, sym, subst}
+use Rattle.ras_device.specs.declared.act.Act.{Act}
+use Rattle.ras_device.specs.declared.act.Act.TheVariants as act
+use Rattle.ras_device.specs.Acts.{HasReports}
+
+one : (id hart at : ℕ) → HasReports (act.Raise id hart ∷ [])
+one id hart zero report e = cc
+one id hart (suc i) report e = cc
+
+pub one_raise : (acts : List Act) (id hart : ℕ) → acts ≡ act.Raise id hart ∷ [] → HasReports acts
+one_raise acts id hart is = subst HasReports (sym is) (one id hart)

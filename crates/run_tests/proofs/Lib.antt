@@ -1,0 +1,2 @@
+-- Raised events are no errors.
+pub mod Raises

@@ -1,0 +1,65 @@
+//! Runs that nobody holds back.
+
+use crate::counted::{Count, Counted, count};
+use crate::outcomes::{Devices, play_of, run_of, with_schedule};
+use crate::scripts::{REALISTIC, REALISTIC_LINES, THREE_DEVICES, WILD, WILD_OUT};
+use board_lock::OpenGate;
+use ras_device::Scrubber;
+use std::alloc::Global;
+use std::sync::atomic::Ordering;
+use std::test::Fail;
+
+/// One device, of so many errors.
+fn scrubber(alloc: Global, errors: u16) -> Result<Devices, Fail> {
+    let mut devices: Devices = Vec::new(alloc);
+    devices.push(Box::new(alloc, Scrubber::new(0, 0, errors))?)?;
+    Ok(devices)
+}
+
+#[test]
+fn its_schedule_makes_the_same_run(rt: HostRuntime) -> Result<(), Fail> {
+    let alloc = rt.alloc();
+    let ran = run_of(&rt, alloc, REALISTIC, scrubber(alloc, 100)?, &OpenGate)?;
+    assert!(rt; ran.has_lines(&REALISTIC_LINES));
+    let text = with_schedule(alloc, REALISTIC, ran.bytes.as_slice())?;
+    let again = play_of(alloc, text.as_slice(), scrubber(alloc, 100)?)?;
+    assert!(rt; again.is(ran.bytes.as_slice()));
+    Ok(())
+}
+
+#[test]
+fn a_hostile_hart_changes_nothing_else(rt: HostRuntime) -> Result<(), Fail> {
+    let alloc = rt.alloc();
+    let ran = run_of(&rt, alloc, WILD, Vec::new(alloc), &OpenGate)?;
+    assert!(rt; ran.is(WILD_OUT));
+    Ok(())
+}
+
+/// Hands in one more device, which counts its drops.
+fn add(alloc: Global, devices: &mut Devices, errors: u16, drops: &Count) -> Result<(), Fail> {
+    let device = Counted {
+        inner: Scrubber::new(0, 0, errors),
+        asks: count(alloc)?,
+        drops: drops.clone()?,
+    };
+    devices.push(Box::new(alloc, device)?)?;
+    Ok(())
+}
+
+#[test]
+fn drops_each_device_once(rt: HostRuntime) -> Result<(), Fail> {
+    let alloc = rt.alloc();
+    let named = count(alloc)?;
+    let spare = count(alloc)?;
+    let unplugged = count(alloc)?;
+    let mut devices: Devices = Vec::new(alloc);
+    add(alloc, &mut devices, 2, &named)?;
+    add(alloc, &mut devices, 3, &spare)?;
+    add(alloc, &mut devices, 4, &unplugged)?;
+    let ran = run_of(&rt, alloc, THREE_DEVICES, devices, &OpenGate)?;
+    assert!(rt; ran.has_lines(&["end"]));
+    assert_eq!(rt; named.load(Ordering::SeqCst), 1);
+    assert_eq!(rt; spare.load(Ordering::SeqCst), 1);
+    assert_eq!(rt; unplugged.load(Ordering::SeqCst), 1);
+    Ok(())
+}
