@@ -4,7 +4,7 @@ use Rattle.ras_device.specs.declared.act.Act.{Act}
 use Rattle.ras_device.specs.declared.act.Act.TheVariants as act
 use Rattle.ras_device.specs.Acts.{HasReports}
 
-one : (id hart at : ℕ) → HasReports (act.Raise id hart ∷ [])
+one : (id hart : ℕ) → HasReports (act.Raise id hart ∷ [])
 one id hart zero report e = cc
 one id hart (suc i) report e = cc
 

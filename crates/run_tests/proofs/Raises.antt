@@ -4,7 +4,7 @@ use Rattle.ras_device.specs.declared.act.Act.{Act}
 use Rattle.ras_device.specs.declared.act.Act.TheVariants as act
 use Rattle.ras_device.specs.Acts.{HasReports}
 
-three : (id hart at : ℕ) → HasReports (act.Raise id hart ∷ act.Raise id hart ∷ act.Raise id hart ∷ [])
+three : (id hart : ℕ) → HasReports (act.Raise id hart ∷ act.Raise id hart ∷ act.Raise id hart ∷ [])
 three id hart zero report e = cc
 three id hart (suc zero) report e = cc
 three id hart (suc (suc zero)) report e = cc
