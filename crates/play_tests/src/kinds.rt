@@ -3,7 +3,7 @@
 ghost use Rattle.std.specs.Prelude.{◌≡◌, [], ◌∷◌, IfOk};
 
 use crate::counted::Count;
-use crate::plays::{CROSSED, UNPLUGGED, count, counted, outcome, outcome_of_two};
+use crate::plays::{CROSSED, Devices, UNPLUGGED, count, counted, played};
 use ras_device::{Act, ErrorDevice, Listed, Scrubber, Silent};
 use ras_pulse::{Chain, PmuDevice};
 use std::alloc::{AllocError, Global};
@@ -39,11 +39,16 @@ fn one_raise(alloc: Global, id: u32, hart: u8) -> Result<Vec<Act>, AllocError>
 #[tactic(auto, using(crate::proofs::Raises::one_raise))]
 fn a_silent_device_makes_no_act(rt: HostRuntime) -> Result<(), Fail> {
     let alloc = rt.alloc();
+    let asks = count(alloc)?;
+    let drops = count(alloc)?;
     let device = Listed::new(one_raise(alloc, 0xffff_0000, 0)?);
-    let seen = outcome(alloc, TRACE, LISTED, device)?;
+    let mut devices: Devices = Vec::new(alloc);
+    devices.push(Box::new(alloc, counted(device, &asks, &drops)?)?)?;
+    devices.push(Box::new(alloc, Silent::new())?)?;
+    let seen = played(alloc, TRACE, LISTED, devices)?;
     assert!(rt; seen.has_lines(&LISTED_LINES));
-    assert_eq!(rt; seen.asks, 2);
-    assert_eq!(rt; seen.drops, 2);
+    assert_eq!(rt; asks.load(Ordering::SeqCst), 2);
+    assert_eq!(rt; drops.load(Ordering::SeqCst), 1);
     Ok(())
 }
 
@@ -64,9 +69,14 @@ const OVERFLOWS_LINES: [&str; 5] = [
 
 #[test]
 fn pulses_are_strays(rt: HostRuntime) -> Result<(), Fail> {
-    let seen = outcome(rt.alloc(), TRACE, OVERFLOWS, PmuDevice::new(1, 2, 1))?;
+    let alloc = rt.alloc();
+    let asks = count(alloc)?;
+    let device = counted(PmuDevice::new(1, 2, 1), &asks, &count(alloc)?)?;
+    let mut devices: Devices = Vec::new(alloc);
+    devices.push(Box::new(alloc, device)?)?;
+    let seen = played(alloc, TRACE, OVERFLOWS, devices)?;
     assert!(rt; seen.has_lines(&OVERFLOWS_LINES));
-    assert_eq!(rt; seen.asks, 4);
+    assert_eq!(rt; asks.load(Ordering::SeqCst), 4);
     Ok(())
 }
 
@@ -115,16 +125,20 @@ fn drops_a_device_at_its_first_unwanted_try(rt: HostRuntime) -> Result<(), Fail>
     let drops = count(alloc)?;
     let dropped_then = count(alloc)?;
     let looks = count(alloc)?;
-    let first = counted(Scrubber::new(0, 0, 3), &count(alloc)?, &drops)?;
+    let asks = count(alloc)?;
+    let first = counted(Scrubber::new(0, 0, 3), &asks, &drops)?;
     let watching = Watching {
         drops: drops.clone()?,
         seen: dropped_then.clone()?,
     };
     let second = counted(watching, &looks, &count(alloc)?)?;
-    let seen = outcome_of_two(alloc, TRACE, LEFT_OVER, first, second)?;
+    let mut devices: Devices = Vec::new(alloc);
+    devices.push(Box::new(alloc, first)?)?;
+    devices.push(Box::new(alloc, second)?)?;
+    let seen = played(alloc, TRACE, LEFT_OVER, devices)?;
     assert!(rt; seen.has_lines(&LEFT_OVER_LINES));
-    assert_eq!(rt; seen.asks, 1);
-    assert_eq!(rt; seen.drops, 1);
+    assert_eq!(rt; asks.load(Ordering::SeqCst), 1);
+    assert_eq!(rt; drops.load(Ordering::SeqCst), 1);
     // of its three looks, the last alone saw that the device had been dropped
     assert_eq!(rt; looks.load(Ordering::SeqCst), 3);
     assert_eq!(rt; dropped_then.load(Ordering::SeqCst), 1);
@@ -133,21 +147,26 @@ fn drops_a_device_at_its_first_unwanted_try(rt: HostRuntime) -> Result<(), Fail>
 
 // ---- A chain ----
 
-/// How many devices of a chain of two were dropped after a play, and how many of the two that were handed in.
+/// How often a chain was dropped after a play, and how many of its two devices were.
 fn chain_drops(alloc: Global, text: &[u8]) -> Result<(u64, u64), Fail> {
+    let chains = count(alloc)?;
     let drops = count(alloc)?;
     let asks = count(alloc)?;
     let first = counted(Silent::new(), &asks, &drops)?;
     let second = counted(Scrubber::new(0, 0, 2), &asks, &drops)?;
-    let seen = outcome(alloc, &["play"], text, Chain::new(first, second))?;
-    Ok((drops.load(Ordering::SeqCst), seen.drops))
+    let chain = counted(Chain::new(first, second), &asks, &chains)?;
+    let mut devices: Devices = Vec::new(alloc);
+    devices.push(Box::new(alloc, chain)?)?;
+    devices.push(Box::new(alloc, Silent::new())?)?;
+    let _seen = played(alloc, &["play"], text, devices)?;
+    Ok((chains.load(Ordering::SeqCst), drops.load(Ordering::SeqCst)))
 }
 
 #[test]
 fn drops_a_chain_with_its_devices(rt: HostRuntime) -> Result<(), Fail> {
     let texts: [&[u8]; 3] = [UNPLUGGED, CROSSED, b"board 1 1\n"];
     for text in texts {
-        assert_eq!(rt; chain_drops(rt.alloc(), text)?, (2, 2));
+        assert_eq!(rt; chain_drops(rt.alloc(), text)?, (1, 2));
     }
     Ok(())
 }

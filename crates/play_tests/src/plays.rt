@@ -66,18 +66,17 @@ pub(crate) fn count(alloc: Global) -> Result<Count, Fail> {
     Ok(Arc::new(alloc, AtomicU64::new(0))?)
 }
 
-/// What came of a play with two devices.
+/// Devices as they are handed in.
+pub(crate) type Devices = Vec<Box<dyn ErrorDevice + Send>>;
+
+/// What came of a play.
 #[derive(Drop)]
-pub(crate) struct Seen {
+pub(crate) struct Outcome {
     status: Status,
     bytes: Vec<u8>,
-    /// How often the first device was asked.
-    pub(crate) asks: u64,
-    /// How many devices were dropped that count their drops where the first does.
-    pub(crate) drops: u64,
 }
 
-impl Seen {
+impl Outcome {
     /// Whether all was written, with these lines in this order.
     pub(crate) fn has_lines(&self, wanted: &[&str]) -> bool {
         self.status == Status::Ok && has_lines(self.bytes.as_slice(), wanted)
@@ -97,63 +96,51 @@ pub(crate) fn counted<D: ErrorDevice>(
     })
 }
 
-/// Plays a text with these devices: the answer, and what was written.
-fn played(
+/// Plays a text with these devices.
+pub(crate) fn played(
     alloc: Global,
     words: &[&str],
     text: &[u8],
-    devices: Vec<Box<dyn ErrorDevice + Send>>,
-) -> Result<(Status, Vec<u8>), Fail> {
+    devices: Devices,
+) -> Result<Outcome, Fail> {
     let mut source = MemSource::new(Vec::from_slice(alloc, text)?, 4096, Vec::new(alloc));
     let mut sink = MemSink::new(alloc, ROOM, Vec::new(alloc))?;
     let status = play(alloc, words, &mut source, &mut sink, devices);
-    Ok((status, Vec::from_slice(alloc, sink.bytes())?))
+    Ok(Outcome {
+        status,
+        bytes: Vec::from_slice(alloc, sink.bytes())?,
+    })
 }
 
-/// Plays a text with two devices that count.
-pub(crate) fn outcome_of_two<D: ErrorDevice + 'static, E: ErrorDevice + 'static>(
-    alloc: Global,
-    words: &[&str],
-    text: &[u8],
-    first: Counted<D>,
-    second: Counted<E>,
-) -> Result<Seen, Fail> {
-    let asks = first.asks.clone()?;
-    let drops = first.drops.clone()?;
-    let mut devices: Vec<Box<dyn ErrorDevice + Send>> = Vec::new(alloc);
+/// What came of a trace with a scrubber of two errors and a silent device.
+#[derive(Drop)]
+struct Seen {
+    played: Outcome,
+    /// How often the scrubber was asked.
+    asks: u64,
+    /// How many of the two devices were dropped.
+    drops: u64,
+}
+
+fn traced(alloc: Global, text: &[u8]) -> Result<Seen, Fail> {
+    let asks = count(alloc)?;
+    let drops = count(alloc)?;
+    let mut devices: Devices = Vec::new(alloc);
+    let first = counted(Scrubber::new(0, 0, 2), &asks, &drops)?;
     devices.push(Box::new(alloc, first)?)?;
+    let second = counted(Silent::new(), &count(alloc)?, &drops)?;
     devices.push(Box::new(alloc, second)?)?;
-    let (status, bytes) = played(alloc, words, text, devices)?;
     Ok(Seen {
-        status,
-        bytes,
+        played: played(alloc, &["play", "--trace"], text, devices)?,
         asks: asks.load(Ordering::SeqCst),
         drops: drops.load(Ordering::SeqCst),
     })
 }
 
-/// Plays a text with a device and a silent one.
-pub(crate) fn outcome<D: ErrorDevice + 'static>(
-    alloc: Global,
-    words: &[&str],
-    text: &[u8],
-    device: D,
-) -> Result<Seen, Fail> {
-    let drops = count(alloc)?;
-    let first = counted(device, &count(alloc)?, &drops)?;
-    let second = counted(Silent::new(), &count(alloc)?, &drops)?;
-    outcome_of_two(alloc, words, text, first, second)
-}
-
-// what comes of a trace with a scrubber of two errors
-fn traced(alloc: Global, text: &[u8]) -> Result<Seen, Fail> {
-    outcome(alloc, &["play", "--trace"], text, Scrubber::new(0, 0, 2))
-}
-
 #[test]
 fn drops_a_device_whose_reporter_is_unplugged(rt: HostRuntime) -> Result<(), Fail> {
     let seen = traced(rt.alloc(), UNPLUGGED)?;
-    assert!(rt; seen.has_lines(&UNPLUGGED_LINES));
+    assert!(rt; seen.played.has_lines(&UNPLUGGED_LINES));
     assert_eq!(rt; seen.asks, 1);
     assert_eq!(rt; seen.drops, 2);
     Ok(())
@@ -162,7 +149,7 @@ fn drops_a_device_whose_reporter_is_unplugged(rt: HostRuntime) -> Result<(), Fai
 #[test]
 fn asks_a_device_for_its_own_reporter(rt: HostRuntime) -> Result<(), Fail> {
     let seen = traced(rt.alloc(), CROSSED)?;
-    assert!(rt; seen.has_lines(&CROSSED_LINES));
+    assert!(rt; seen.played.has_lines(&CROSSED_LINES));
     assert_eq!(rt; seen.drops, 2);
     Ok(())
 }
@@ -170,7 +157,7 @@ fn asks_a_device_for_its_own_reporter(rt: HostRuntime) -> Result<(), Fail> {
 #[test]
 fn drops_devices_that_no_reporter_names(rt: HostRuntime) -> Result<(), Fail> {
     let seen = traced(rt.alloc(), b"board 1 1\n")?;
-    assert!(rt; seen.has_lines(&["schedule"]));
+    assert!(rt; seen.played.has_lines(&["schedule"]));
     assert_eq!(rt; seen.asks, 0);
     assert_eq!(rt; seen.drops, 2);
     Ok(())

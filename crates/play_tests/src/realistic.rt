@@ -1,8 +1,8 @@
 //! A whole board with a scrubber, whose errors are all counted, and an error that wasn't corrected on another bank.
 
-use crate::plays::outcome;
-use board_run::Status;
+use crate::plays::{Devices, count, counted, played};
 use ras_device::Scrubber;
+use std::sync::atomic::Ordering;
 use std::test::Fail;
 
 const SCRIPT: &[u8] = b"board 1 4
@@ -59,9 +59,15 @@ const LINES: [&str; 3] = [
 
 #[test]
 fn plays_a_whole_board(rt: HostRuntime) -> Result<(), Fail> {
-    let seen = outcome(rt.alloc(), &["play"], SCRIPT, Scrubber::new(0, 0, 100))?;
+    let alloc = rt.alloc();
+    let asks = count(alloc)?;
+    let drops = count(alloc)?;
+    let device = counted(Scrubber::new(0, 0, 100), &asks, &drops)?;
+    let mut devices: Devices = Vec::new(alloc);
+    devices.push(Box::new(alloc, device)?)?;
+    let seen = played(alloc, &["play"], SCRIPT, devices)?;
     assert!(rt; seen.has_lines(&LINES));
-    assert_eq!(rt; seen.asks, 100);
-    assert_eq!(rt; seen.drops, 2);
+    assert_eq!(rt; asks.load(Ordering::SeqCst), 100);
+    assert_eq!(rt; drops.load(Ordering::SeqCst), 1);
     Ok(())
 }

@@ -2,7 +2,7 @@
 
 ghost use Rattle.std.specs.Prelude.{◌≡◌, [], ◌∷◌, IfOk};
 
-use ras_device::{Act, ErrorDevice};
+use ras_device::{Act, ErrorDevice, Scrubber};
 use std::alloc::{AllocError, Global};
 use std::sync::Arc;
 use std::sync::atomic::{AtomicU64, Ordering};
@@ -39,6 +39,15 @@ impl<D: ErrorDevice> ErrorDevice for Counted<D> {
     fn next(&mut self) -> Option<Act> {
         self.asks.fetch_add(1, Ordering::SeqCst);
         self.inner.next()
+    }
+}
+
+/// A scrubber of so many errors that counts.
+pub(crate) fn scrubber(errors: u16, asks: Count, drops: Count) -> Counted<Scrubber> {
+    Counted {
+        inner: Scrubber::new(0, 0, errors),
+        asks,
+        drops,
     }
 }
 

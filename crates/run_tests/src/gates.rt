@@ -1,11 +1,10 @@
 //! Runs under gates that look on or hold workers back.
 
-use crate::counted::{Count, Counted, count, three_raises};
+use crate::counted::{Count, Counted, count, scrubber, three_raises};
 use crate::outcomes::{Devices, comes_before, run_of, with_schedule};
 use crate::scripts::{REALISTIC, REALISTIC_LINES, UNPLUGS, UNPLUGS_OUT};
 use board_lock::Gate;
-use ras_device::{ErrorDevice, Listed, Scrubber};
-use std::alloc::Global;
+use ras_device::Listed;
 use std::sync::atomic::{AtomicU64, Ordering};
 use std::test::Fail;
 use std::thread;
@@ -22,28 +21,6 @@ fn comes(number: &AtomicU64) -> bool {
         thread::yield_now();
     }
     false
-}
-
-/// One device, which counts.
-fn one<D: ErrorDevice + 'static>(
-    alloc: Global,
-    inner: D,
-    asks: &Count,
-    drops: &Count,
-) -> Result<Devices, Fail> {
-    let mut devices: Devices = Vec::new(alloc);
-    let device = Counted {
-        inner,
-        asks: asks.clone()?,
-        drops: drops.clone()?,
-    };
-    devices.push(Box::new(alloc, device)?)?;
-    Ok(devices)
-}
-
-/// The device of the realistic script, which counts how often it is asked.
-fn scrubber(alloc: Global, asks: &Count) -> Result<Devices, Fail> {
-    one(alloc, Scrubber::new(0, 0, 100), asks, &count(alloc)?)
 }
 
 // ---- Two workers meet ----
@@ -81,7 +58,8 @@ fn gate_meet(rt: HostRuntime) -> Result<(), Fail> {
         second: AtomicU64::new(0),
         seen: AtomicU64::new(0),
     };
-    let devices = scrubber(alloc, &count(alloc)?)?;
+    let mut devices: Devices = Vec::new(alloc);
+    devices.push(Box::new(alloc, scrubber(100, count(alloc)?, count(alloc)?))?)?;
     let ran = run_of(&rt, alloc, REALISTIC, devices, &gate)?;
     assert_eq!(rt; gate.seen.load(Ordering::SeqCst), 2);
     assert!(rt; ran.has_lines(&REALISTIC_LINES));
@@ -117,7 +95,8 @@ fn gate_count(rt: HostRuntime) -> Result<(), Fail> {
         asks: asks.clone()?,
         asked_by_then: AtomicU64::new(0),
     };
-    let devices = scrubber(alloc, &asks)?;
+    let mut devices: Devices = Vec::new(alloc);
+    devices.push(Box::new(alloc, scrubber(100, asks, count(alloc)?))?)?;
     let ran = run_of(&rt, alloc, REALISTIC, devices, &gate)?;
     assert!(rt; gate.all.load(Ordering::SeqCst) >= 168);
     assert!(rt; gate.asked_by_then.load(Ordering::SeqCst) >= 100);
@@ -165,8 +144,13 @@ fn gate_unplug(rt: HostRuntime) -> Result<(), Fail> {
     let gate = After::new(0, 1);
     let asks = count(alloc)?;
     let drops = count(alloc)?;
-    let device = Listed::new(three_raises(alloc, 0xffff_0000, 0)?);
-    let devices = one(alloc, device, &asks, &drops)?;
+    let device = Counted {
+        inner: Listed::new(three_raises(alloc, 0xffff_0000, 0)?),
+        asks: asks.clone()?,
+        drops: drops.clone()?,
+    };
+    let mut devices: Devices = Vec::new(alloc);
+    devices.push(Box::new(alloc, device)?)?;
     let ran = run_of(&rt, alloc, UNPLUGS, devices, &gate)?;
     assert_eq!(rt; gate.seen.load(Ordering::SeqCst), 1);
     assert_eq!(rt; asks.load(Ordering::SeqCst), 0);
@@ -181,7 +165,8 @@ fn gate_unplug(rt: HostRuntime) -> Result<(), Fail> {
 fn gate_order(rt: HostRuntime) -> Result<(), Fail> {
     let alloc = rt.alloc();
     let gate = After::new(1, 0);
-    let devices = scrubber(alloc, &count(alloc)?)?;
+    let mut devices: Devices = Vec::new(alloc);
+    devices.push(Box::new(alloc, scrubber(100, count(alloc)?, count(alloc)?))?)?;
     let ran = run_of(&rt, alloc, REALISTIC, devices, &gate)?;
     assert_eq!(rt; gate.seen.load(Ordering::SeqCst), 1);
     assert!(rt; ran.has_lines(&REALISTIC_LINES));

@@ -1,28 +1,24 @@
 //! Runs that nobody holds back.
 
-use crate::counted::{Count, Counted, count};
+use crate::counted::{count, scrubber};
 use crate::outcomes::{Devices, play_of, run_of, with_schedule};
 use crate::scripts::{REALISTIC, REALISTIC_LINES, THREE_DEVICES, WILD, WILD_OUT};
 use board_lock::OpenGate;
 use ras_device::Scrubber;
-use std::alloc::Global;
 use std::sync::atomic::Ordering;
 use std::test::Fail;
-
-/// One device, of so many errors.
-fn scrubber(alloc: Global, errors: u16) -> Result<Devices, Fail> {
-    let mut devices: Devices = Vec::new(alloc);
-    devices.push(Box::new(alloc, Scrubber::new(0, 0, errors))?)?;
-    Ok(devices)
-}
 
 #[test]
 fn its_schedule_makes_the_same_run(rt: HostRuntime) -> Result<(), Fail> {
     let alloc = rt.alloc();
-    let ran = run_of(&rt, alloc, REALISTIC, scrubber(alloc, 100)?, &OpenGate)?;
+    let mut devices: Devices = Vec::new(alloc);
+    devices.push(Box::new(alloc, Scrubber::new(0, 0, 100))?)?;
+    let ran = run_of(&rt, alloc, REALISTIC, devices, &OpenGate)?;
     assert!(rt; ran.has_lines(&REALISTIC_LINES));
     let text = with_schedule(alloc, REALISTIC, ran.bytes.as_slice())?;
-    let again = play_of(alloc, text.as_slice(), scrubber(alloc, 100)?)?;
+    let mut devices: Devices = Vec::new(alloc);
+    devices.push(Box::new(alloc, Scrubber::new(0, 0, 100))?)?;
+    let again = play_of(alloc, text.as_slice(), devices)?;
     assert!(rt; again.is(ran.bytes.as_slice()));
     Ok(())
 }
@@ -35,17 +31,6 @@ fn a_hostile_hart_changes_nothing_else(rt: HostRuntime) -> Result<(), Fail> {
     Ok(())
 }
 
-/// Hands in one more device, which counts its drops.
-fn add(alloc: Global, devices: &mut Devices, errors: u16, drops: &Count) -> Result<(), Fail> {
-    let device = Counted {
-        inner: Scrubber::new(0, 0, errors),
-        asks: count(alloc)?,
-        drops: drops.clone()?,
-    };
-    devices.push(Box::new(alloc, device)?)?;
-    Ok(())
-}
-
 #[test]
 fn drops_each_device_once(rt: HostRuntime) -> Result<(), Fail> {
     let alloc = rt.alloc();
@@ -53,9 +38,9 @@ fn drops_each_device_once(rt: HostRuntime) -> Result<(), Fail> {
     let spare = count(alloc)?;
     let unplugged = count(alloc)?;
     let mut devices: Devices = Vec::new(alloc);
-    add(alloc, &mut devices, 2, &named)?;
-    add(alloc, &mut devices, 3, &spare)?;
-    add(alloc, &mut devices, 4, &unplugged)?;
+    devices.push(Box::new(alloc, scrubber(2, count(alloc)?, named.clone()?))?)?;
+    devices.push(Box::new(alloc, scrubber(3, count(alloc)?, spare.clone()?))?)?;
+    devices.push(Box::new(alloc, scrubber(4, count(alloc)?, unplugged.clone()?))?)?;
     let ran = run_of(&rt, alloc, THREE_DEVICES, devices, &OpenGate)?;
     assert!(rt; ran.has_lines(&["end"]));
     assert_eq!(rt; named.load(Ordering::SeqCst), 1);
