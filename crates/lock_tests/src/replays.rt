@@ -4,8 +4,10 @@ use crate::reports::{plan_of, report_of};
 use board_core::Board;
 use board_lock::{OpenGate, hire, replay, run_plan};
 use ras_device::{ErrorDevice, Scrubber};
-use std::alloc::{AllocError, Global};
+use std::alloc::Global;
+use std::sync::Wait;
 use std::test::Fail;
+use std::thread::Threads;
 
 // four harts, three banks, a device of a hundred errors and a list of one
 const REALISTIC: &[u8] = b"board 1 4
@@ -54,31 +56,24 @@ reporter list
 act 1 error 1 0 uec 3 17 0x40000 0 0 1
 ";
 
-/// The device of that board, in a box.
-fn boxed(alloc: Global) -> Result<Vec<Box<dyn ErrorDevice + Send>>, AllocError> {
+/// Whether a run in threads, with its device in a box, and the same steps tried again by workers of their own, with the
+/// device as it is, give the same report.
+fn is_same_again<R: Threads + Wait + Sync>(rt: &R, alloc: Global) -> Result<bool, Fail> {
+    let plan = plan_of(alloc, REALISTIC)?;
     let mut boxes: Vec<Box<dyn ErrorDevice + Send>> = Vec::new(alloc);
     boxes.push(Box::new(alloc, Scrubber::new(0, 0, 100))?)?;
-    Ok(boxes)
-}
-
-/// The same device as it is.
-fn bare(alloc: Global) -> Result<Vec<Scrubber>, AllocError> {
+    let board = run_plan(rt, alloc, &plan, boxes, &OpenGate)?;
     let mut devices = Vec::new(alloc);
     devices.push(Scrubber::new(0, 0, 100))?;
-    Ok(devices)
+    let mut workers = hire(alloc, &plan, devices)?;
+    let mut again = Board::new(alloc, &plan)?;
+    replay(board.steps(), workers.as_mut_slice(), &mut again);
+    let reported = report_of(alloc, &again)?;
+    Ok(reported.as_slice() == report_of(alloc, &board)?.as_slice())
 }
 
 #[test]
 fn the_same_steps_again_give_the_same_report(rt: HostRuntime) -> Result<(), Fail> {
-    let alloc = rt.alloc();
-    let plan = plan_of(alloc, REALISTIC)?;
-    let board = run_plan(&rt, alloc, &plan, boxed(alloc)?, &OpenGate)?;
-    let mut again = Board::new(alloc, &plan)?;
-    let mut workers = hire(alloc, &plan, bare(alloc)?)?;
-    replay(board.steps(), workers.as_mut_slice(), &mut again);
-    assert_eq!(rt;
-        report_of(alloc, &again)?.as_slice(),
-        report_of(alloc, &board)?.as_slice()
-    );
+    assert!(rt; is_same_again(&rt, rt.alloc())?);
     Ok(())
 }
