@@ -5,5 +5,5 @@ use Rattle.board_run.proofs.outputs.write_move.Goals as goal
 pub returns-clause-wrote : goal.returns-clause-wrote
 returns-clause-wrote g c =
     λ devices.
-    move_wrote devices c.args.plan c.moved.new.plan _ _ c.write.result c.status_of.result c.requires c.moved.ensures.moved
-    c.moved.ensures.again c.status_of.ensures c.write.ensures.bytes
+    move_wrote devices c.args.plan c.moved.new.plan _ _ c.write.result c.status_of.result c.requires
+    c.moved.ensures.moved c.moved.ensures.again c.status_of.ensures c.write.ensures.bytes
