@@ -42,7 +42,7 @@ abbrev pub first_of : List Act → Option Act
 first_of [] = None
 first_of (a ∷ more) = Some a
 
--- the first given act that wasn't handed on; where there is none, the first of the device's, unless as many were given
+-- acts that wait come first, in their order; after them the first of the device's, unless as many were given
 -- as may be
 abbrev pub next_of : Hand → List Act → Option Act
 next_of w [] = if nat_lt (length w.handed) w.limit then first_of w.left else None

@@ -58,7 +58,7 @@ fn hold<R: Wait, D: ErrorDevice>(rt: &R, worker: &mut Worker<D>, shared: &Shared
     is_step(&note)
 }
 
-/// Makes steps of the worker's actor on the board behind the lock, one for each hold of the lock, until a try was idle.
+/// Makes steps of the worker's actor on the locked board until a try makes none; the lock is taken anew for each try.
 /// The gate is told before each hold. It makes at most 10,001 tries, and waits for the lock alone.
 #[tactic(auto, using(crate::proofs::Staying::stays_then))]
 pub fn work<R: Wait, G: Gate, D: ErrorDevice>(

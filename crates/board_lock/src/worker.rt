@@ -111,7 +111,7 @@ impl<D: ErrorDevice> Worker<D> {
     }
 
     /// One try of the worker's actor on a board. A reporter whose acts the board lists is handed the next of its list.
-    /// Any other reporter that is wanted is handed the first given act that wasn't handed on; where there is none, its
+    /// For any other, while it is wanted, acts that wait since a rewind come first, in their order; after them its
     /// device is asked, unless as many acts were given as the worker's limit, and what it gives is kept and handed on.
     /// `Idle` comes exactly where the actor has no step: the board hasn't the actor, the hart has no step, or the
     /// reporter isn't wanted or has no next act. Then nothing changes.

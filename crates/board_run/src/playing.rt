@@ -186,7 +186,7 @@ fn play_with<S: Source, K: Sink, D: ErrorDevice>(
 /// - `move` writes a script that it reads in version 2's form; that form makes the same tries and runs, and its reports
 ///   are the same but for the version.
 ///
-/// Device K of `devices` belongs to the reporter that names it: it is asked for one act at a try of that reporter,
+/// What stands at place K of `devices` acts for the reporter that names K: it is asked for an act at each of its tries,
 /// while the reporter is wanted, and is dropped at the first try at which it isn't, or at the end. A reporter whose
 /// device isn't there has no acts.
 ///

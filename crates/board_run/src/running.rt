@@ -112,9 +112,9 @@ fn run_with<R: Threads + Wait + Sync, S: Source, K: Sink, G: Gate + Sync, D: Err
 /// Reads a whole script from the source, runs it with a worker for each hart and reporter, all of them beside one
 /// another on one board behind a lock, and writes the full report of that run to the sink, each line in one write. The
 /// one command is the word `run`. The script's schedule is ignored: the schedule lines of the report say in which order
-/// the steps were made, one that the lock kept. Device K of `devices` belongs to the reporter that names it; a reporter
-/// whose device isn't there has no acts. The gate is told before each hold of the lock. It waits for the board's lock
-/// alone, and its promise holds if it returns.
+/// the steps were made, one that the lock kept. A reporter that names device K has the acts of place K in `devices`;
+/// one whose device isn't there has no acts. The gate is told before each hold of the lock. It waits for the board's
+/// lock alone, and its promise holds if it returns.
 ///
 /// The answers, in the order in which they are looked for: Usage, ReadFault, TooLong, NoMemory, BadScript, NoMemory
 /// again, WriteFault. The rules are this project's own.
