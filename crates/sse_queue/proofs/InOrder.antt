@@ -1,16 +1,14 @@
 -- A queue stays in order.
-use Rattle.std.proofs.Common.{◌≡◌, Bool, true, false, cond, List, [], ◌∷◌, refl, arith}
+use Rattle.std.proofs.Common.{◌≡◌, true, false, cond, List, [], ◌∷◌, refl}
 use Rattle.std.specs.Prelude.{◌==◌}
-use Rattle.std.specs.List.{list_any, list_all}
-use Rattle.std.proofs.lemmas.Bool.Decides.{nat_tests}
+use Rattle.std.specs.List.{list_all}
 use Rattle.std.proofs.lemmas.Bool.{and_parts, and_from, or_parts, eqb-false}
 use Rattle.sse_base.specs.declared.ids.Instance.{Instance}
 use Rattle.sse_base.specs.Ids.{id_of, same_instance}
-use Rattle.sse_base.specs.Choice.{Urgency, is_more_urgent}
 use Rattle.sse_queue.specs.declared.urgency.Waiting.{Waiting}
 use Rattle.sse_queue.proofs.Before.{before_both, one_before}
-pub use Rattle.sse_queue.proofs.Places.{spot_at_most, put_at_spot, holds_standing, taken_out}
-use Rattle.sse_queue.specs.Order.{urgency_of, is_before, is_in_order, has_id, put_in, without}
+pub use Rattle.sse_queue.proofs.Places.{spot_at_most, put_at_spot, holds_standing, taken_out, none_out}
+use Rattle.sse_queue.specs.Order.{is_before, is_in_order, has_id, put_in, without}
 
 before_all : (a b : Waiting) (vs : List Waiting) → is_before a b ≡ true → list_all (is_before b) vs ≡ true
     → list_all (is_before a) vs ≡ true
@@ -72,3 +70,6 @@ pub ruleset put = (put_at_spot, spot_at_most, put_in_order)
 
 -- an instance that is taken out of its place
 pub ruleset taken = (taken_out, holds_standing, less_in_order)
+
+-- an instance that is taken out where it stands
+pub ruleset left = (taken_out, none_out, less_in_order)

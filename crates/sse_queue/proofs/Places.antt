@@ -1,5 +1,5 @@
 -- Putting in and taking out at a place.
-use Rattle.std.proofs.Common.{◌≡◌, ℕ, suc, ◌<◌, ◌≤◌, Bool, true, List, [], ◌∷◌, length, ltb, refl, ap, arith}
+use Rattle.std.proofs.Common.{◌≡◌, ◌<◌, ◌≤◌, List, [], ◌∷◌, length, ltb, refl, arith}
 use Rattle.std.specs.List.{insert, remove}
 use Rattle.std.proofs.lemmas.Bool.Decides.{nat_tests}
 use Rattle.sse_base.specs.declared.ids.Instance.{Instance}
@@ -23,3 +23,8 @@ pub taken_out : (at : Instance) (vs : List Waiting) → standing at vs < length 
     ≡ without at vs
 taken_out at [] h = absurd (omega arith)
 taken_out at (v ∷ vs) h = grind (arith, taken_out at vs)
+
+-- what stands nowhere isn't taken out
+pub none_out : (at : Instance) (vs : List Waiting) → length vs ≤ standing at vs → without at vs ≡ vs
+none_out at [] h = refl
+none_out at (v ∷ vs) h = grind (arith, none_out at vs)

@@ -73,13 +73,22 @@ impl Queue {
     }
 
     /// Lets an instance wait no longer; the others keep their order.
-    #[tactic(auto, using(crate::proofs::InOrder::taken))]
     pub fn remove(&mut self, at: Instance)
         requires { holds at self.old ≡ true }
         ensures { self.new ≡ without at self.old }
     {
+        self.leave(at);
+    }
+
+    /// Lets an instance wait no longer, where it does; the others keep their order.
+    #[tactic(auto, using(crate::proofs::InOrder::left))]
+    pub fn leave(&mut self, at: Instance)
+        ensures { self.new ≡ without at self.old }
+    {
         let spot = standing(at, self.items.as_slice());
-        let _ = self.items.remove(spot);
+        if spot < self.items.len() {
+            let _ = self.items.remove(spot);
+        }
     }
 
     /// The most urgent one, with its priority, which counts as one look. None exactly where nothing waits.

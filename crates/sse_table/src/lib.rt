@@ -9,5 +9,6 @@ mod table;
 mod writes;
 
 pub use pending::Pending;
+pub use places::Place;
 pub use sse_base::{AttrRange, Event, EventDecl, Slot};
 pub use table::Table;

@@ -17,6 +17,13 @@ const NOWHERE: u16 = 0xffff;
 /// An odd number that spreads the ids of events over the hints.
 const SPREAD: u32 = 0x9e37_79b1;
 
+/// An instance of a board, and its number.
+#[derive(Clone, Copy, Debug, PartialEq, Eq)]
+pub struct Place {
+    pub at: Instance,
+    pub index: u16,
+}
+
 /// The instances of a board, by their numbers. Each instance has a hint at where it may stand, so that most are
 /// found at one look.
 #[derive(Drop)]

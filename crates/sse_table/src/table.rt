@@ -1,21 +1,22 @@
 //! The table.
 
-ghost use Rattle.std.specs.Prelude.{◌≡◌, ◌<◌, ◌≤◌, ◌+◌, length, slice_get, IfOk, Some, true, false, [], ◌∷◌, option_map, unwrap_or};
-ghost use Rattle.sse_base.specs.Arrows.{arrow};
+mod by_place;
+
+ghost use Rattle.std.specs.Prelude.{◌≡◌, ◌<◌, ◌≤◌, ◌+◌, length, slice_get, IfOk, MatchResult, true, false, [], ◌∷◌};
 ghost use Rattle.sse_base.specs.Codes.{is_success};
 ghost use Rattle.sse_base.specs.Ids.{place};
-ghost use Rattle.sse_base.specs.Events.{IsOnBoard, is_on_board, change, event, moved, start_events, slots, signal, set_running, set_completed, is_enabled, is_running};
-ghost use Rattle.sse_base.specs.Calls.{find_instance, take_next, with_handler, register, unregister, enable, disable, attribute, check_write, some_word, is_refused_value, with_attributes};
+ghost use Rattle.sse_base.specs.Events.{IsOnBoard, is_on_board, change, event, start_events, slots, signal, set_running, set_completed, is_enabled, is_running};
+ghost use Rattle.sse_base.specs.Calls.{find_instance, register, unregister, enable, disable, attribute, check_write, some_word, is_refused_value, with_attributes};
+ghost use Rattle.sse_table.specs.Found.{IsPlace};
 
 use crate::instances::instance_of;
 use crate::pending::Pending;
-use crate::places::Places;
+use crate::places::{Place, Places};
 use crate::start;
-use crate::writes::{some_never_written, some_refused_value, some_shut};
 use ras_io::NoMemory;
 use sse_base::{
     AttrRange, Event, EventClass, EventDecl, EventId, Instance, MAX_EVENTS, MAX_HARTS,
-    MAX_INSTANCES, Move, SbiCode, Slot, State, attr, next_state, word_for,
+    MAX_INSTANCES, SbiCode, Slot, attr,
 };
 use std::alloc::{AllocError, Global};
 use std::marker::Model;
@@ -47,24 +48,6 @@ impl Model for Table {
         (length t.each.items ≡ length t.instances)
         × (length t.marks ≡ length t.instances)
         × (length t.instances ≤ MAX_INSTANCES) };
-}
-
-/// An event with where its handler begins and its argument.
-fn with_handler(event: Option<Event>, entry: u64, arg: u64) -> Option<Event>
-    ensures { result ≡ option_map (with_handler entry arg) event }
-{
-    event.map(|event| Event {
-        entry,
-        arg,
-        ..event
-    })
-}
-
-/// The state after a move, or the same where the state has no such arrow.
-fn gone(state: State, mv: Move) -> State
-    ensures { result ≡ unwrap_or (arrow state mv) state }
-{
-    next_state(state, mv).unwrap_or(state)
 }
 
 /// The table at the start of a board.
@@ -107,12 +90,14 @@ impl Table {
         self.harts
     }
 
-    /// The instance that an id means on a hart. An id above 32 bits or of a reserved class is an invalid
-    /// parameter, and another one that isn't on the board is not supported (the order is this project's own).
+    /// The instance that an id means on a hart, and its number. An id above 32 bits or of a reserved class is an
+    /// invalid parameter, and another one that isn't on the board is not supported (the order is this project's
+    /// own).
     #[tactic(auto, unfolding(sse_base::specs::Calls::is_reserved))]
-    pub fn find(&self, id: u64, hart: u8) -> Result<Instance, SbiCode>
-        ensures found { result ≡ find_instance id hart self.now }
-        ensures on_board { IfOk result (λ at. IsOnBoard at self.now) }
+    pub fn look_up(&self, id: u64, hart: u8) -> Result<Place, SbiCode>
+        ensures found { MatchResult result (λ p. find_instance id hart self.now ≡ Ok p.at)
+            (λ code. find_instance id hart self.now ≡ Err code) }
+        ensures place { IfOk result (λ p. IsPlace p self.now.instances) }
     {
         if id > u32::MAX as u64 {
             return Err(SbiCode::InvalidParam);
@@ -122,11 +107,35 @@ impl Table {
             return Err(SbiCode::InvalidParam);
         }
         let at = instance_of(id, hart);
-        if self.instances.place(at) < self.instances.len() {
-            Ok(at)
+        let index = self.instances.place(at);
+        if index < self.instances.len() {
+            let index = index as u16;
+            Ok(Place { at, index })
         } else {
             Err(SbiCode::NotSupported)
         }
+    }
+
+    /// The instance that an id means on a hart. An id above 32 bits or of a reserved class is an invalid
+    /// parameter, and another one that isn't on the board is not supported (the order is this project's own).
+    pub fn find(&self, id: u64, hart: u8) -> Result<Instance, SbiCode>
+        ensures found { result ≡ find_instance id hart self.now }
+        ensures on_board { IfOk result (λ at. IsOnBoard at self.now) }
+    {
+        match self.look_up(id, hart) {
+            Ok(place) => Ok(place.at),
+            Err(code) => Err(code),
+        }
+    }
+
+    /// An instance and its number.
+    pub fn place_of(&self, at: Instance) -> Place
+        requires { IsOnBoard at self.now }
+        ensures at { result.at ≡ at }
+        ensures place { IsPlace result self.now.instances }
+    {
+        let index = self.instances.place(at) as u16;
+        Place { at, index }
     }
 
     /// Whether the board has an instance.
@@ -186,33 +195,6 @@ impl Table {
         }
     }
 
-    /// The event of an instance after a move, or None exactly where its state has no such arrow.
-    fn moved(&self, at: Instance, mv: Move) -> Option<Event>
-        requires { IsOnBoard at self.now }
-        ensures { result ≡ moved mv (event at self.now) }
-    {
-        let event = self.each[self.instances.place(at)];
-        next_state(event.state, mv).map(|state| Event { state, ..event })
-    }
-
-    /// The event of an instance becomes the next one; where there is none it is in an invalid state, and
-    /// nothing changes.
-    fn take_next(&mut self, at: Instance, next: Option<Event>) -> SbiCode
-        requires { IsOnBoard at self.old }
-        ensures code { result ≡ (take_next next at self.old).code }
-        ensures next { self.new ≡ (take_next next at self.old).next }
-        ensures refused { is_success result ≡ false → self.new ≡ self.old }
-        ensures harts { self.new.harts ≡ self.old.harts }
-        ensures instances { self.new.instances ≡ self.old.instances }
-    {
-        let Some(event) = next else {
-            return SbiCode::InvalidState;
-        };
-        let i = self.instances.place(at);
-        self.each[i] = event;
-        SbiCode::Success
-    }
-
     /// Registers an instance with where its handler begins and its argument. An odd place is an invalid
     /// parameter, and an instance that isn't unused is in an invalid state; then nothing changes.
     pub fn register(&mut self, at: Instance, pc: u64, arg: u64) -> SbiCode
@@ -223,11 +205,8 @@ impl Table {
         ensures harts { self.new.harts ≡ self.old.harts }
         ensures instances { self.new.instances ≡ self.old.instances }
     {
-        if pc % 2 == 1 {
-            return SbiCode::InvalidParam;
-        }
-        let next = with_handler(self.moved(at, Move::Register), pc, arg);
-        self.take_next(at, next)
+        let place = self.place_of(at);
+        self.register_at(place, pc, arg)
     }
 
     /// Makes an instance unused; its entry and its argument become 0, and all else stays. An instance that
@@ -240,8 +219,8 @@ impl Table {
         ensures harts { self.new.harts ≡ self.old.harts }
         ensures instances { self.new.instances ≡ self.old.instances }
     {
-        let next = with_handler(self.moved(at, Move::Unregister), 0, 0);
-        self.take_next(at, next)
+        let place = self.place_of(at);
+        self.unregister_at(place)
     }
 
     /// Enables an instance. One that isn't registered is in an invalid state; then nothing changes.
@@ -253,8 +232,8 @@ impl Table {
         ensures harts { self.new.harts ≡ self.old.harts }
         ensures instances { self.new.instances ≡ self.old.instances }
     {
-        let next = self.moved(at, Move::Enable);
-        self.take_next(at, next)
+        let place = self.place_of(at);
+        self.enable_at(place)
     }
 
     /// Disables an instance. One that isn't enabled is in an invalid state; then nothing changes.
@@ -266,8 +245,8 @@ impl Table {
         ensures harts { self.new.harts ≡ self.old.harts }
         ensures instances { self.new.instances ≡ self.old.instances }
     {
-        let next = self.moved(at, Move::Disable);
-        self.take_next(at, next)
+        let place = self.place_of(at);
+        self.disable_at(place)
     }
 
     /// An instance that is delivered runs, and is no longer pending.
@@ -276,9 +255,8 @@ impl Table {
         requires enabled { is_enabled (event at self.old).state ≡ true }
         ensures { self.new ≡ set_running at self.old }
     {
-        let i = self.instances.place(at);
-        self.each[i].state = gone(self.each[i].state, Move::Deliver);
-        self.marks.clear(i as u16);
+        let place = self.place_of(at);
+        self.set_running_at(place);
     }
 
     /// An instance whose handler is done is enabled again, or registered where it is oneshot.
@@ -287,13 +265,8 @@ impl Table {
         requires running { is_running (event at self.old).state ≡ true }
         ensures { self.new ≡ set_completed at self.old }
     {
-        let i = self.instances.place(at);
-        let mv = if self.each[i].oneshot {
-            Move::CompleteOnce
-        } else {
-            Move::Complete
-        };
-        self.each[i].state = gone(self.each[i].state, mv);
+        let place = self.place_of(at);
+        self.set_completed_at(place);
     }
 
     /// Makes an instance pending, in whatever state it is.
@@ -301,7 +274,8 @@ impl Table {
         requires { IsOnBoard at self.old }
         ensures { self.new ≡ signal at self.old }
     {
-        self.marks.set(self.instances.place(at) as u16);
+        let place = self.place_of(at);
+        self.signal_at(place);
     }
 
     /// Whether software may inject an instance.
@@ -374,32 +348,18 @@ impl Table {
         requires count { length values.now ≡ range.count }
         ensures { result ≡ check_write range.base values.now at running_here self.now }
     {
-        let state = self.each[self.instances.place(at)].state;
-        if some_never_written(at, range) {
-            SbiCode::Denied
-        } else if some_shut(state, running_here, range) {
-            SbiCode::InvalidState
-        } else if some_refused_value(self.harts, range.base, values) {
-            SbiCode::InvalidParam
-        } else {
-            SbiCode::Success
-        }
+        self.check_write_at(self.place_of(at), range, values, running_here)
     }
 
     /// Writes values to the attributes of an instance from `base` on, all at once; those of them that are
     /// no priority, oneshot mark or preferred hart are passed over.
-    #[tactic(auto, using(crate::proofs::Checks::priority_fits, crate::proofs::Checks::preferred_fits))]
     pub fn set_attrs(&mut self, at: Instance, base: u8, values: &[u64])
         requires on_board { IsOnBoard at self.old }
         requires accepted { some_word (is_refused_value self.old.harts) base values.now ≡ false }
         ensures { self.new ≡ change at (with_attributes base values.now (event at self.old)) self.old }
     {
-        let i = self.instances.place(at);
-        let old = self.each[i];
-        let event = &mut self.each[i];
-        event.priority = word_for(attr::PRIORITY, base, values, old.priority as u64) as u32;
-        event.oneshot = word_for(attr::CONFIG, base, values, old.oneshot as u64) == 1;
-        event.preferred = word_for(attr::PREFERRED_HART, base, values, old.preferred as u64) as u8;
+        let place = self.place_of(at);
+        self.set_attrs_at(place, base, values);
     }
 
     /// Writes a value to attribute 1, 2 or 3 of an instance: its priority, oneshot mark or preferred hart.
