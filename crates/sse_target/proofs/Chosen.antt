@@ -6,11 +6,11 @@ use Rattle.sse_base.specs.declared.ids.Instance.{Instance}
 use Rattle.sse_base.specs.declared.events.Slot.{Slot}
 use Rattle.sse_base.specs.Ids.{id_of}
 use Rattle.sse_base.specs.Events.{Events, slots}
-use Rattle.sse_base.specs.Choice.{Urgency, is_more_urgent, urgency_of, is_masked, waits_for, deliverable, least, more_urgent_of, above, is_above, chosen}
+use Rattle.sse_base.specs.Choice.{Urgency, is_more_urgent, urgency_of, is_masked, waits_for, deliverable, least, more_urgent_of, above, chosen}
 use Rattle.sse_queue.specs.declared.urgency.Waiting.{Waiting}
 use Rattle.sse_queue.specs.Order.{is_before, put_in, front}
 use Rattle.sse_target.specs.Lines.{Lines, Holds, queue_at, line_for, lined_up, waiting_of}
-use Rattle.sse_target.specs.Steps.{picked}
+use Rattle.sse_target.specs.Picked.{picked}
 
 abbrev pair : Slot → ℕ × Instance
 pair s = (s.event.priority, s.at)

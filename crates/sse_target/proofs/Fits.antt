@@ -1,7 +1,6 @@
 -- On a hart of a board the others leave room for an instance, and none of them is of its event.
-use Rattle.std.proofs.Common.{◌≡◌, ℕ, suc, ◌+◌, ◌<◌, ◌≤◌, Bool, true, false, cond, List, [], ◌∷◌, ◌++◌, length, refl, ap, sym, ◌∙◌, arith}
+use Rattle.std.proofs.Common.{◌≡◌, ℕ, ◌+◌, ◌<◌, ◌≤◌, Bool, true, false, cond, List, [], ◌∷◌, ◌++◌, length, refl, ap, arith}
 use Rattle.std.specs.Prelude.{◌==◌, ◌&&◌, filter}
-use Rattle.std.proofs.lemmas.Bool.Decides.{nat_tests}
 use Rattle.std.proofs.lemmas.Bool.{and_parts, eq-eqb}
 use Rattle.sse_base.specs.declared.ids.EventId.{EventId}
 use Rattle.sse_base.specs.declared.ids.Instance.{Instance}
@@ -12,7 +11,7 @@ use Rattle.sse_base.specs.Events.{joined, is_enabled}
 use Rattle.sse_base.specs.Contexts.{bit}
 use Rattle.sse_base.specs.Choice.{waits_for, target, is_hart}
 use Rattle.sse_base.proofs.Instances.{target_may_run}
-use Rattle.sse_target.proofs.Entries.{Entry, entry, entries, waiting, with_id, waiting-append, with_id-append}
+use Rattle.sse_target.proofs.Entries.{entries, waiting, with_id, waiting-append, with_id-append}
 
 -- how many instances pass
 abbrev pub tally : (Instance → Bool) → List Instance → ℕ

@@ -1,18 +1,18 @@
 -- The queues of a table of which one instance changes, and of a fresh one.
-use Rattle.std.proofs.Common.{◌≡◌, ℕ, zero, suc, ◌<◌, Bool, true, false, cond, List, [], ◌∷◌, ◌++◌, length, get_or, set, map, replicate, refl, ap, sym, ◌∙◌, subst, arith, ◌⊎◌, inl, inr}
+use Rattle.std.proofs.Common.{◌≡◌, ℕ, zero, suc, ◌<◌, Bool, true, false, cond, List, [], ◌∷◌, ◌++◌, length, get_or, set, map, refl, ap, sym, ◌∙◌, subst, arith, inl, inr}
 use Rattle.std.specs.Prelude.{◌&&◌, filter}
 use Rattle.std.proofs.lemmas.Bool.{cases_Bool, both_ways, false_from_ne_true}
 use Rattle.std.proofs.lemmas.List.{get_or-replicate, length-replicate, get_or-set_same, set-get_or}
 use Rattle.sse_base.specs.declared.ids.Instance.{Instance}
 use Rattle.sse_base.specs.declared.events.Event.{Event}
 use Rattle.sse_base.specs.declared.events.Slot.{Slot}
-use Rattle.sse_base.specs.Ids.{id_of, place, may_run_on, FitsHarts}
+use Rattle.sse_base.specs.Ids.{place, may_run_on, FitsHarts}
 use Rattle.sse_base.specs.Events.{Events, event, is_pending, is_enabled, fresh_event, IsOnBoard, joined, slots}
 use Rattle.sse_base.specs.Choice.{target, is_hart, waits_for}
 use Rattle.sse_base.proofs.Instances.{at_its_place, target_may_run}
 use Rattle.sse_queue.specs.declared.urgency.Waiting.{Waiting}
 use Rattle.sse_queue.specs.Order.{without}
-use Rattle.sse_target.specs.Lines.{Lines, Holds, HoldsBut, line_for, lined_up, queue_at, fresh_lines, waiting_of}
+use Rattle.sse_target.specs.Lines.{Lines, Holds, HoldsBut, line_for, lined_up, queue_at, fresh_lines}
 use Rattle.sse_target.specs.Steps.{put_if}
 use Rattle.sse_target.proofs.Entries.{Entry, entry, entries, entries-append, lined, lone, by_slots}
 use Rattle.sse_target.proofs.Fits.{Few, few_slots, others}

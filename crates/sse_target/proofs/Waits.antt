@@ -1,6 +1,6 @@
 -- The queues of a hart as one instance changes, and as masks change.
-use Rattle.std.proofs.Common.{◌≡◌, ℕ, suc, ◌+◌, ◌<◌, Bool, true, false, cond, List, [], ◌∷◌, ◌++◌, length, take, drop, drop-cons, eqb, refl, ap, sym, ◌∙◌, subst, arith}
-use Rattle.std.specs.Prelude.{◌&&◌, Option, Some, None, slice_get, filter}
+use Rattle.std.proofs.Common.{◌≡◌, ℕ, suc, ◌+◌, Bool, true, false, cond, List, [], ◌∷◌, ◌++◌, length, take, drop, drop-cons, eqb, refl, ap, sym, ◌∙◌, subst, arith}
+use Rattle.std.specs.Prelude.{◌&&◌, Option, Some, None, slice_get}
 use Rattle.std.specs.List.{refill}
 use Rattle.std.specs.Option.{option_eq}
 use Rattle.std.proofs.lemmas.Bool.{and_parts, both_ways, false_from_ne_true, eqb-true, eq-eqb}
@@ -8,7 +8,6 @@ use Rattle.std.proofs.lemmas.Grind.{common_steps}
 use Rattle.std.proofs.lemmas.List.{take-append-drop, take_more, append_assoc, append-nil}
 use Rattle.std.proofs.Math.Seq.{take-length, drop-length}
 use Rattle.std.proofs.lemmas.Option.{slice_get_within, get_or_from_slice_get}
-use Rattle.sse_base.specs.declared.ids.Instance.{Instance}
 use Rattle.sse_base.specs.declared.events.Slot.{Slot}
 use Rattle.sse_base.specs.Ids.{id_of, may_run_on, FitsHarts}
 use Rattle.sse_base.specs.Events.{Events, is_enabled, slots}
@@ -18,8 +17,8 @@ use Rattle.sse_queue.specs.declared.urgency.Waiting.{Waiting}
 use Rattle.sse_queue.specs.Order.{put_in, without}
 use Rattle.sse_target.specs.Lines.{waiting_of, line_for}
 use Rattle.sse_target.specs.Steps.{waits_on, Takes, taken_if, put_if, moved, renewed}
-use Rattle.sse_target.proofs.Entries.{Entry, entry, entries, lined, waiting, with_id, with_id-append, waiting-append, by_slots, entries-append, pulled, lone, takes}
-use Rattle.sse_target.proofs.Fits.{ats, Few, few_slots, waits_may_run, others}
+use Rattle.sse_target.proofs.Entries.{Entry, entry, entries, lined, with_id, with_id-append, by_slots, entries-append, pulled, lone, takes}
+use Rattle.sse_target.proofs.Fits.{Few, few_slots, waits_may_run, others}
 
 -- the hart for which an instance waits, as a test
 pub waits_on_for : (h : ℕ) (masks : List Bool) (s : Slot) → is_hart h (waits_on masks s) ≡ waits_for h masks s

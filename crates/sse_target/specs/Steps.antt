@@ -1,13 +1,18 @@
 -- How a queue changes as instances come and go. This describes the code; no public clause cites it.
-use Rattle.std.specs.Prelude.{◌≡◌, ℕ, ◌<◌, ◌&&◌, Bool, true, false, if◌then◌else◌, List, length, Option, Some, None}
+use Rattle.std.specs.Prelude.{◌≡◌, ℕ, ◌<◌, ◌&&◌, Bool, true, false, if◌then◌else◌, List, length, Option, None}
 use Rattle.sse_base.specs.declared.ids.Instance.{Instance}
+use Rattle.sse_base.specs.declared.events.Event.{Event}
 use Rattle.sse_base.specs.declared.events.Slot.{Slot}
 use Rattle.sse_base.specs.Ids.{id_of}
 use Rattle.sse_base.specs.Events.{is_enabled}
-use Rattle.sse_base.specs.Choice.{Urgency, is_more_urgent, is_hart, target, waits_for}
+use Rattle.sse_base.specs.Choice.{is_hart, target}
 use Rattle.sse_queue.specs.declared.urgency.Waiting.{Waiting}
 use Rattle.sse_queue.specs.Order.{put_in, without, has_id}
 use Rattle.sse_target.specs.Lines.{waiting_of}
+
+-- an instance with its event and whether it is pending
+abbrev pub shown : Instance → Event → Bool → Slot
+shown at e pending = record { at = at; event = e; pending = pending }
 
 -- the hart for which an instance waits
 abbrev pub waits_on : List Bool → Slot → Option ℕ
@@ -38,9 +43,3 @@ moved true true w q = q
 moved true false w q = without w.at q
 moved false true w q = put_in w q
 moved false false w q = q
-
--- the first, where nothing runs or where it is strictly more urgent than what runs
-abbrev pub picked : Option (ℕ × Instance) → Option Urgency → Option Instance
-picked None top = None
-picked (Some w) None = Some w.1
-picked (Some w) (Some top) = if is_more_urgent (w.0, id_of w.1) top then Some w.1 else None

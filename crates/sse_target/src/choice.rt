@@ -1,10 +1,12 @@
 //! The hart on which an instance is delivered, and what is chosen there.
 
-ghost use Rattle.std.specs.Prelude.{◌≡◌, not, position};
+ghost use Rattle.std.specs.Prelude.{◌≡◌, ◌&&◌, not, position};
 ghost use Rattle.sse_base.specs.Choice.{is_masked, target};
-ghost use Rattle.sse_target.specs.Steps.{waits_on, picked};
+ghost use Rattle.sse_base.specs.Events.{is_enabled};
+ghost use Rattle.sse_target.specs.Picked.{picked};
+ghost use Rattle.sse_target.specs.Steps.{waits_on};
 
-use sse_base::{Instance, Slot, State};
+use sse_base::{Event, Instance, Slot, State};
 use sse_queue::{Urgency, is_more_urgent};
 
 /// Whether a hart is masked. One that the board hasn't counts as masked.
@@ -41,19 +43,26 @@ pub fn target(masks: &[bool], at: Instance, preferred: u8) -> Option<usize>
     }
 }
 
+/// Whether an instance waits: it is enabled and pending.
+pub fn waits(event: &Event, pending: bool) -> bool
+    ensures { result ≡ (is_enabled event.now.state && pending) }
+{
+    matches!(event.state, State::Enabled) && pending
+}
+
 /// The hart for which a slot's instance waits. None exactly where it isn't enabled, isn't pending, or is
 /// delivered on no hart.
 pub fn waits_on(masks: &[bool], slot: &Slot) -> Option<usize>
     ensures { result ≡ waits_on masks.now slot.now }
 {
-    if matches!(slot.event.state, State::Enabled) && slot.pending {
+    if waits(&slot.event, slot.pending) {
         target(masks, slot.at, slot.event.preferred)
     } else {
         None
     }
 }
 
-/// The first of a queue, where nothing runs or where it is strictly more urgent than what runs.
+/// The first of a queue with its priority, where nothing runs or where it is strictly more urgent than what runs.
 pub fn picked(first: Option<(u32, Instance)>, top: Option<Urgency>) -> Option<Instance>
     ensures { result ≡ picked first top }
 {

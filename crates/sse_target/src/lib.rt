@@ -5,5 +5,6 @@ mod choice;
 mod lines;
 mod targets;
 
+pub use choice::picked;
 pub use sse_queue::Looks;
 pub use targets::Targets;

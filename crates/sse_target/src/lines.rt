@@ -5,22 +5,12 @@ ghost use Rattle.sse_base.specs.Ids.{FitsHarts};
 ghost use Rattle.sse_base.specs.Choice.{is_hart, waits_for};
 ghost use Rattle.sse_queue.specs.Order.{without};
 ghost use Rattle.sse_target.specs.Lines.{line_for, waiting_of};
-ghost use Rattle.sse_target.specs.Steps.{waits_on, Takes, taken_if, put_if, moved, renewed};
+ghost use Rattle.sse_target.specs.Steps.{shown, waits_on, Takes, taken_if, put_if, moved, renewed};
 
-use crate::choice::{target, waits_on};
-use sse_base::{Instance, Slot};
+use crate::choice::{target, waits, waits_on};
+use sse_base::{Event, Instance, Slot};
 use sse_queue::Queue;
 use sse_table::Table;
-
-/// An instance waits no longer here, where it did.
-#[tactic(auto, using(crate::proofs::Swaps::without_none))]
-fn leave(queue: &mut Queue, at: Instance)
-    ensures { queue.new ≡ without at queue.old }
-{
-    if queue.holds(at) {
-        queue.remove(at);
-    }
-}
 
 /// An instance waits no longer on a hart, where it did.
 fn take_out(queues: &mut [Queue], hart: Option<usize>, slot: &Slot)
@@ -30,7 +20,7 @@ fn take_out(queues: &mut [Queue], hart: Option<usize>, slot: &Slot)
     if let Some(hart) = hart {
         if hart < queues.len() {
             let queue = &mut queues[hart];
-            leave(queue, slot.at);
+            queue.leave(slot.at);
         }
     }
 }
@@ -50,15 +40,33 @@ fn put_in(queues: &mut [Queue], hart: Option<usize>, slot: &Slot)
     }
 }
 
-/// After an instance changed: on the hart on which it is delivered it waits, or no longer.
-pub fn renew(queues: &mut [Queue], masks: &[bool], slot: &Slot)
-    requires { (h : ℕ) → h < length queues.old → is_hart h (waits_on masks.now slot.now) ≡ true
-        → Takes (waiting_of slot.now) (taken_if true slot.now.at (slice_index_or queues.old h [])) }
-    ensures { (h : ℕ) → h < length queues.old → slice_index_or queues.new h []
-        ≡ renewed h masks.now slot.now (slice_index_or queues.old h []) }
+/// An instance waits in a queue as urgent as it is now, or no longer.
+fn wait_again(queue: &mut Queue, at: Instance, priority: u32, waits: bool)
+    requires { waits ≡ true → Takes (record { priority = priority; at = at }) (without at queue.old) }
+    ensures { queue.new ≡ put_if waits (record { priority = priority; at = at }) (without at queue.old) }
 {
-    take_out(queues, target(masks, slot.at, slot.event.preferred), slot);
-    put_in(queues, waits_on(masks, slot), slot);
+    queue.leave(at);
+    if waits {
+        queue.insert(priority, at);
+    }
+}
+
+/// After an instance changed: on the hart on which it is delivered it waits, or no longer.
+pub fn renew(queues: &mut [Queue], masks: &[bool], at: Instance, event: &Event, pending: bool)
+    requires { (h : ℕ) → h < length queues.old → is_hart h (waits_on masks.now (shown at event.now pending)) ≡ true
+        → Takes (waiting_of (shown at event.now pending)) (taken_if true at (slice_index_or queues.old h [])) }
+    ensures { (h : ℕ) → h < length queues.old → slice_index_or queues.new h []
+        ≡ renewed h masks.now (shown at event.now pending) (slice_index_or queues.old h []) }
+{
+    let Some(hart) = target(masks, at, event.preferred) else {
+        return;
+    };
+    if hart >= queues.len() {
+        return;
+    }
+    let waits = waits(event, pending);
+    let queue = &mut queues[hart];
+    wait_again(queue, at, event.priority, waits);
 }
 
 /// After masks changed: an instance waits where it is delivered now, if it waited.

@@ -1,18 +1,20 @@
 //! The masks and queues of all harts.
 
-ghost use Rattle.std.specs.Prelude.{◌≡◌, ◌<◌, ◌≤◌, ◌+◌, ◌-◌, ◌^◌, ℕ, length, slice_set, true, false, if◌then◌else◌};
+ghost use Rattle.std.specs.Prelude.{◌≡◌, ◌<◌, ◌≤◌, ◌+◌, ◌-◌, ◌^◌, ℕ, Option, length, slice_set, true, false, if◌then◌else◌};
 ghost use Rattle.sse_base.specs.Ids.{FitsHarts};
 ghost use Rattle.sse_base.specs.Events.{Events, IsOnBoard};
-ghost use Rattle.sse_base.specs.Choice.{is_masked, chosen};
+ghost use Rattle.sse_base.specs.Choice.{Urgency, is_masked, chosen};
 ghost use Rattle.sse_base.specs.Calls.{mask, unmask};
+ghost use Rattle.sse_table.specs.Found.{IsPlace};
 ghost use Rattle.sse_target.specs.Lines.{fresh_lines, Holds, HoldsBut};
+ghost use Rattle.sse_target.specs.Picked.{picked};
 
 use crate::choice::{is_masked, picked};
 use crate::lines::{follow_all, renew};
 use arrayvec::ArrayVec;
 use sse_base::{EventId, Instance, MAX_HARTS, SbiCode};
 use sse_queue::{Looks, Queue};
-use sse_table::Table;
+use sse_table::{Place, Table};
 use std::marker::Model;
 
 /// Room for the most harts of a board.
@@ -124,15 +126,46 @@ impl Targets {
         ensures masks { self.new.masks ≡ self.old.masks }
         ensures holds { Holds self.new table.now }
     {
-        let slot = table.slot_of(at);
-        renew(self.queues.as_mut_slice(), self.masks.as_slice(), &slot);
+        self.renew(table, table.place_of(at));
+    }
+
+    /// The same for an instance that was looked up before.
+    pub fn renew(&mut self, table: &Table, place: Place)
+        requires board { FitsHarts table.now.instances }
+        requires place { IsPlace place table.now.instances }
+        requires holds { HoldsBut place.at self.old table.now }
+        ensures masks { self.new.masks ≡ self.old.masks }
+        ensures holds { Holds self.new table.now }
+    {
+        let event = table.event_at(place);
+        let pending = table.is_pending_at(place);
+        renew(
+            self.queues.as_mut_slice(),
+            self.masks.as_slice(),
+            place.at,
+            event,
+            pending,
+        );
+    }
+
+    /// What comes first of all that waits for a hart, with its priority, for whatever runs there. None exactly
+    /// where nothing waits or the hart is masked. It takes at most one look, and none where the hart is masked.
+    pub fn first(&self, hart: u8, looks: &mut Looks) -> Option<(u32, Instance)>
+        requires { looks.old.count < 2 ^ 64 - 1 }
+        ensures chosen { (t : Events) → Holds self.now t → (top : Option Urgency)
+            → picked result top ≡ chosen hart self.now.masks top t }
+        ensures looks { looks.new.count ≡ looks.old.count + (if is_masked hart self.now.masks then 0 else 1) }
+    {
+        if is_masked(self.masks.as_slice(), hart) {
+            return None;
+        }
+        self.queues[hart as usize].first(looks)
     }
 
     /// The instance that is delivered next on a hart where its newest handler is as urgent as `top`: the
     /// most urgent one that waits for it, where that is strictly more urgent. None exactly where there is
     /// none. It takes at most one look, and none where the hart is masked (SBI 3.0, "Supervisor Software
     /// Events", event priority; the target is this project's own).
-    #[tactic(auto, unfolding(sse_base::specs::Choice::chosen))]
     pub fn chosen(
         &self,
         hart: u8,
@@ -143,9 +176,6 @@ impl Targets {
         ensures chosen { (t : Events) → Holds self.now t → result ≡ chosen hart self.now.masks top t }
         ensures looks { looks.new.count ≡ looks.old.count + (if is_masked hart self.now.masks then 0 else 1) }
     {
-        if is_masked(self.masks.as_slice(), hart) {
-            return None;
-        }
-        picked(self.queues[hart as usize].first(looks), top)
+        picked(self.first(hart, looks), top)
     }
 }

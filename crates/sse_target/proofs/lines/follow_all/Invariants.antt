@@ -1,5 +1,5 @@
 -- The instances so far wait by the new masks, the others by the old ones.
-use Rattle.std.proofs.Common.{◌≡◌, ℕ, ◌<◌, List, [], length, get_or}
+use Rattle.std.proofs.Common.{◌≡◌, ℕ, ◌<◌, [], length, get_or}
 use Rattle.sse_base.specs.Events.{slots}
 use Rattle.sse_target.proofs.Waits.{between}
 use Rattle.sse_target.proofs.lines.follow_all.Given as goal

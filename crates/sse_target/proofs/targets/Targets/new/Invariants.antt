@@ -1,5 +1,5 @@
 -- So many masks and queues.
-use Rattle.std.proofs.Common.{◌≡◌, List, [], replicate}
+use Rattle.std.proofs.Common.{◌≡◌, [], replicate}
 use Rattle.std.specs.Prelude.{true}
 use Rattle.sse_target.proofs.targets.Targets.new.Given as goal
 
