@@ -1,9 +1,10 @@
 //! The handlers of a hart, over its registers.
 
-ghost use Rattle.std.specs.Prelude.{◌≡◌, ◌<◌, ◌≤◌, length, slice_get};
+ghost use Rattle.std.specs.Prelude.{◌≡◌, ℕ, ◌<◌, ◌≤◌, length, slice_get, option_map};
 ghost use Rattle.sse_base.specs.Contexts.{fresh_stack, with_pc, deliver, complete, newest, has_frame, interrupted};
 ghost use Rattle.sse_base.specs.Calls.{with_interrupted};
 ghost use Rattle.hart_ctx.specs.Registers.{regs_of, with_regs};
+ghost use Rattle.hart_ctx.specs.Levels.{word_of};
 ghost use Rattle.hart_ctx.specs.Running.{running_in};
 
 use crate::kept::Kept;
@@ -158,6 +159,18 @@ impl Contexts {
         let i = place(self.kept.as_slice(), at);
         if i < self.kept.len() {
             Some(word_of(&self.kept[i].saved, attr))
+        } else {
+            None
+        }
+    }
+
+    /// The four INTERRUPTED attributes of an event. None exactly where no handler of it runs here.
+    pub fn saved(&self, at: Instance) -> Option<Saved>
+        ensures { (attr : ℕ) → option_map (word_of attr) result ≡ interrupted attr at self.now.frames self.now.base }
+    {
+        let i = place(self.kept.as_slice(), at);
+        if i < self.kept.len() {
+            Some(self.kept[i].saved)
         } else {
             None
         }
