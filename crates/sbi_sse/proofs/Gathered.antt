@@ -1,26 +1,36 @@
--- Attributes that are read one after another.
-use Rattle.std.proofs.Common.{◌≡◌, ℕ, zero, suc, ◌+◌, ◌-◌, ◌<◌, List, ◌∷◌, ◌++◌, take, replicate, set, refl, ap, arith, add-zero}
+-- Some of the attributes that were read one after another.
+use Rattle.std.proofs.Common.{◌≡◌, ℕ, zero, suc, ◌+◌, ◌-◌, ◌≤◌, List, ◌∷◌, take, drop, refl, ap, ◌∙◌, arith}
 use Rattle.sse_base.specs.declared.ids.Instance.{Instance}
 use Rattle.sse_base.specs.Events.{Events}
 use Rattle.sse_base.specs.Contexts.{Stack}
 use Rattle.sse_base.specs.Calls.{read, reads}
 
-next_read : (a n m : ℕ) (at : Instance) (ss : List Stack) (t : Events) →
-    set (reads a n at ss t ++ replicate (suc m) 0) n (read (a + n) at ss t) ≡ reads a (suc n) at ss t ++ replicate m 0
-next_read a zero m at ss t = rw add-zero refl
-next_read a (suc n) m at ss t =
-    let e : a + suc n ≡ a + 1 + n = omega arith
-    in rw e (ap (λ ws. read a at ss t ∷ ws) (next_read (a + 1) n m at ss t))
+from_one_on : (a b m n : ℕ) (at : Instance) (ss : List Stack) (t : Events) → m ≡ b + n
+    → drop b (reads a m at ss t) ≡ reads (a + b) n at ss t
+from_one_on a zero m n at ss t e =
+    let same : m ≡ n = omega arith
+    in let here : a + 0 ≡ a = omega arith
+    in rw (same, here) refl
+from_one_on a (suc b) zero n at ss t e = absurd (omega arith)
+from_one_on a (suc b) (suc m) n at ss t e =
+    from_one_on (a + 1) b m n at ss t (omega arith)
+    ∙ ap (λ k. reads k n at ss t) (let on : a + 1 + b ≡ a + suc b = omega arith in on)
 
-pub one_more_read : (a i : ℕ) (at : Instance) (ss : List Stack) (t : Events) → i < 10 →
-    set (reads a i at ss t ++ replicate (10 - i) 0) i (read (a + i) at ss t) ≡ reads a (i + 1) at ss t
-    ++ replicate (10 - (i + 1)) 0
-one_more_read a i at ss t h =
-    let e : 10 - i ≡ suc (10 - (i + 1)) = omega arith
-    in let f : i + 1 ≡ suc i = omega arith
-    in rw (e, f) (next_read a i (10 - suc i) at ss t)
+first_ones : (a n m : ℕ) (at : Instance) (ss : List Stack) (t : Events) → n ≤ m
+    → take n (reads a m at ss t) ≡ reads a n at ss t
+first_ones a zero m at ss t h = refl
+first_ones a (suc n) zero at ss t h = absurd (omega arith)
+first_ones a (suc n) (suc m) at ss t h =
+    ap (λ ws. read a at ss t ∷ ws) (first_ones (a + 1) n m at ss t (omega arith))
 
-pub reads_taken : (a n : ℕ) (at : Instance) (ss : List Stack) (t : Events) (ws : List ℕ)
-    → take n (reads a n at ss t ++ ws) ≡ reads a n at ss t
-reads_taken a zero at ss t ws = refl
-reads_taken a (suc n) at ss t ws = ap (λ vs. read a at ss t ∷ vs) (reads_taken (a + 1) n at ss t ws)
+-- a range of all ten
+pub range_read : (b n : ℕ) (words : List ℕ) (at : Instance) (ss : List Stack) (t : Events)
+    → words ≡ reads 0 10 at ss t → b + n ≤ 10 → take (b + n - b) (drop b words) ≡ reads b n at ss t
+range_read b n words at ss t e h =
+    let many : b + n - b ≡ n = omega arith
+    in let start : 0 + b ≡ b = omega arith
+    in ap (λ k. take k (drop b words)) many
+    ∙ ap (λ (ws : List ℕ). take n (drop b ws)) e
+    ∙ ap (take n) (from_one_on 0 b 10 (10 - b) at ss t (omega arith))
+    ∙ ap (λ k. take n (reads k (10 - b) at ss t)) start
+    ∙ first_ones b n (10 - b) at ss t (omega arith)

@@ -7,3 +7,5 @@ pub mod Fresh
 pub mod Injects
 pub mod Gathered
 pub mod Queues
+pub mod Interrupted
+pub mod Begins

@@ -22,7 +22,7 @@ use hart_ctx::{Contexts, Memory, Regs, Saved};
 use ras_io::NoMemory;
 use sse_base::{EventDecl, EventId, Function, Instance, MAX_EVENTS, MAX_HARTS, SbiCode};
 use sse_table::Table;
-use sse_target::{Looks, Targets};
+use sse_target::{Looks, Targets, picked};
 use std::alloc::Global;
 use std::marker::Model;
 
@@ -167,8 +167,9 @@ impl Firmware {
         requires { IsOnBoard at self.old.events }
         ensures { self.new ≡ record self.old { events = signal at self.old.events } }
     {
-        self.table.signal(at);
-        self.targets.on_change(&self.table, at);
+        let place = self.table.place_of(at);
+        self.table.signal_at(place);
+        self.targets.renew(&self.table, place);
     }
 
     /// Makes these the registers of a hart: what is live, and the triple that the running code sees in
@@ -195,6 +196,18 @@ impl Firmware {
         }
     }
 
+    /// The event that is next on a hart. None exactly where there is none.
+    fn next(&self, hart: u8) -> Option<Instance>
+        requires { hart < self.now.events.harts }
+        ensures { result ≡ next_for hart (reach hart self.now) }
+    {
+        let mut looks = Looks { count: 0 };
+        match self.targets.first(hart, &mut looks) {
+            Some(first) => picked(Some(first), self.top(hart)),
+            None => None,
+        }
+    }
+
     /// Delivers the event that is next on a hart: the most urgent one that waits for it, where that is
     /// strictly more urgent than what runs. None exactly where there is none; then nothing changes (SBI 3.0,
     /// "Supervisor Software Events", event priority, software event delivery).
@@ -206,16 +219,16 @@ impl Firmware {
         ensures harts { self.new.events.harts ≡ self.old.events.harts }
         ensures instances { self.new.events.instances ≡ self.old.events.instances }
     {
-        let top = self.top(hart);
-        let mut looks = Looks { count: 0 };
-        let at = match self.targets.chosen(hart, top, &mut looks) {
+        let at = match self.next(hart) {
             Some(at) => at,
             None => return None,
         };
-        let entry = self.table.entry(at);
-        let arg = self.table.arg(at);
-        self.table.set_running(at);
-        self.targets.on_change(&self.table, at);
+        let place = self.table.place_of(at);
+        let event = self.table.event_at(place);
+        let entry = event.entry;
+        let arg = event.arg;
+        self.table.set_running_at(place);
+        self.targets.renew(&self.table, place);
         let stack = &mut self.stacks[hart as usize];
         stack.deliver(at, entry, arg, hart);
         Some(at)

@@ -1,12 +1,13 @@
 //! Answers, and the stacks of all harts.
 
-ghost use Rattle.std.specs.Prelude.{◌≡◌, ◌≤◌, ◌+◌, map, IfOk, true};
+ghost use Rattle.std.specs.Prelude.{◌≡◌, ◌≤◌, ◌+◌, ℕ, map, IfOk, true};
 ghost use Rattle.sse_base.specs.Contexts.{fresh_stack};
 ghost use Rattle.sse_base.specs.Calls.{no_words, interrupted_on, find_range, argument_at};
 ghost use Rattle.sse_base.specs.Words.{are_words};
+ghost use Rattle.hart_ctx.specs.Levels.{word_of};
 ghost use Rattle.sbi_sse.specs.Elsewhere.{elsewhere};
 
-use hart_ctx::{Contexts, Memory};
+use hart_ctx::{Contexts, Memory, Saved};
 use sse_base::{AttrRange, Instance, RangeFault, Reply, SbiCode, attr_range};
 use std::alloc::{AllocError, Global};
 
@@ -60,19 +61,33 @@ pub fn find_range(args: [u64; 5]) -> Result<AttrRange, SbiCode>
     Ok(range)
 }
 
-/// An INTERRUPTED attribute of an event: of its handler's frame, on whichever hart that runs, and 0 where
+/// What an INTERRUPTED attribute reads where no handler runs.
+const NOTHING: Saved = Saved {
+    sepc: 0,
+    flags: 0,
+    a6: 0,
+    a7: 0,
+};
+
+/// The INTERRUPTED attributes of an event that doesn't run.
+#[tactic(auto, using(crate::proofs::Interrupted::reads_zero))]
+pub fn nothing() -> Saved
+    ensures { (attr : ℕ) → word_of attr result ≡ 0 }
+{
+    NOTHING
+}
+
+/// The INTERRUPTED attributes of an event: of its handler's frame, on whichever hart that runs, and 0 where
 /// it doesn't run.
-pub fn interrupted(stacks: &[Contexts], attr: u8, at: Instance) -> u64
-    requires first { 6 ≤ attr }
-    requires last { attr ≤ 9 }
-    ensures { result ≡ interrupted_on attr at stacks.now }
+pub fn interrupted(stacks: &[Contexts], at: Instance) -> Saved
+    ensures { (attr : ℕ) → word_of attr result ≡ interrupted_on attr at stacks.now }
 {
     for stack in stacks {
-        if let Some(word) = stack.interrupted(attr, at) {
-            return word;
+        if let Some(saved) = stack.saved(at) {
+            return saved;
         }
     }
-    0
+    nothing()
 }
 
 /// The instance of the same event on another hart: a global one is the same everywhere. None exactly where

@@ -1,15 +1,18 @@
 //! The ten calls.
 
-ghost use Rattle.std.specs.Prelude.{◌≡◌, ◌<◌, ◌≤◌, ◌+◌, true, take, []};
-ghost use Rattle.sse_base.specs.Events.{IsOnBoard};
+ghost use Rattle.std.specs.Prelude.{◌≡◌, ◌<◌, ◌≤◌, ◌+◌, ℕ, true, []};
 ghost use Rattle.sse_base.specs.Machine.{reach};
 ghost use Rattle.sse_base.specs.Words.{are_words};
-ghost use Rattle.sse_base.specs.Calls.{function, read, reads, write_range};
+ghost use Rattle.sse_base.specs.Calls.{function, interrupted_on, reads, write_range};
+ghost use Rattle.hart_ctx.specs.Levels.{word_of};
+ghost use Rattle.sse_table.specs.Found.{IsPlace};
 ghost use Rattle.sbi_sse.specs.Answered.{Answers};
 
 use crate::firmware::Firmware;
-use crate::parts::{CallNote, elsewhere, find_range, interrupted, note};
-use sse_base::{AttrRange, Function, Instance, Reply, SbiCode, attr};
+use crate::parts::{CallNote, elsewhere, find_range, interrupted, note, nothing};
+use hart_ctx::Saved;
+use sse_base::{AttrRange, Function, Reply, SbiCode, State};
+use sse_table::Place;
 
 impl Firmware {
     /// Registers an event with where its handler begins and its argument.
@@ -19,11 +22,11 @@ impl Firmware {
         ensures { Answers hart self.old self.new result (function hart Function.Register args self.old.stacks
             (reach hart self.old)) }
     {
-        let at = match self.table.find(args[0], hart) {
-            Ok(at) => at,
+        let place = match self.table.look_up(args[0], hart) {
+            Ok(place) => place,
             Err(code) => return note(code),
         };
-        note(self.table.register(at, args[1], args[2]))
+        note(self.table.register_at(place, args[1], args[2]))
     }
 
     /// Makes an event unused.
@@ -33,11 +36,11 @@ impl Firmware {
         ensures { Answers hart self.old self.new result (function hart Function.Unregister args self.old.stacks
             (reach hart self.old)) }
     {
-        let at = match self.table.find(args[0], hart) {
-            Ok(at) => at,
+        let place = match self.table.look_up(args[0], hart) {
+            Ok(place) => place,
             Err(code) => return note(code),
         };
-        note(self.table.unregister(at))
+        note(self.table.unregister_at(place))
     }
 
     /// Enables an event.
@@ -47,12 +50,12 @@ impl Firmware {
         ensures { Answers hart self.old self.new result (function hart Function.Enable args self.old.stacks
             (reach hart self.old)) }
     {
-        let at = match self.table.find(args[0], hart) {
-            Ok(at) => at,
+        let place = match self.table.look_up(args[0], hart) {
+            Ok(place) => place,
             Err(code) => return note(code),
         };
-        let code = self.table.enable(at);
-        self.targets.on_change(&self.table, at);
+        let code = self.table.enable_at(place);
+        self.targets.renew(&self.table, place);
         note(code)
     }
 
@@ -63,12 +66,12 @@ impl Firmware {
         ensures { Answers hart self.old self.new result (function hart Function.Disable args self.old.stacks
             (reach hart self.old)) }
     {
-        let at = match self.table.find(args[0], hart) {
-            Ok(at) => at,
+        let place = match self.table.look_up(args[0], hart) {
+            Ok(place) => place,
             Err(code) => return note(code),
         };
-        let code = self.table.disable(at);
-        self.targets.on_change(&self.table, at);
+        let code = self.table.disable_at(place);
+        self.targets.renew(&self.table, place);
         note(code)
     }
 
@@ -80,9 +83,10 @@ impl Firmware {
             (reach hart self.old)) }
     {
         let stack = &mut self.stacks[hart as usize];
-        if let Some(done) = stack.complete() {
-            self.table.set_completed(done);
-            self.targets.on_change(&self.table, done);
+        if let Some(at) = stack.complete() {
+            let done = self.table.place_of(at);
+            self.table.set_completed_at(done);
+            self.targets.renew(&self.table, done);
         }
         note(SbiCode::Success)
     }
@@ -114,14 +118,14 @@ impl Firmware {
         ensures { Answers hart self.old self.new result (function hart Function.Inject args self.old.stacks
             (reach hart self.old)) }
     {
-        let at = match self.table.find(args[0], hart) {
-            Ok(at) => at,
+        let place = match self.table.look_up(args[0], hart) {
+            Ok(place) => place,
             Err(code) => return note(code),
         };
-        if !self.table.may_inject(at) {
+        if !self.table.event_at(place).inject {
             return note(SbiCode::InvalidParam);
         }
-        let to = match elsewhere(at, args[1], self.table.harts()) {
+        let to = match elsewhere(place.at, args[1], self.table.harts()) {
             Some(to) => to,
             None => return note(SbiCode::InvalidParam),
         };
@@ -129,51 +133,51 @@ impl Firmware {
         note(SbiCode::Success)
     }
 
-    /// One attribute of an instance.
-    fn attribute(&self, at: Instance, attr: u8) -> u64
-        requires on_board { IsOnBoard at self.now.events }
-        requires attribute { attr ≤ 9 }
-        ensures { result ≡ read attr at self.now.stacks self.now.events }
+    /// The INTERRUPTED attributes of an instance, which are 0 where it doesn't run.
+    fn interrupted(&self, place: Place) -> Saved
+        requires { IsPlace place self.now.events.instances }
+        ensures { (attr : ℕ) → word_of attr result ≡ interrupted_on attr place.at self.now.stacks }
     {
-        if attr < attr::INTERRUPTED_SEPC {
-            self.table.get_attr(at, attr)
-        } else {
-            interrupted(&self.stacks, attr, at)
+        match self.table.event_at(place).state {
+            State::Running => interrupted(&self.stacks, place.at),
+            _ => nothing(),
         }
     }
 
-    /// The attributes of a range, and zeros up to ten.
-    #[tactic(auto, using(crate::proofs::Gathered::one_more_read, crate::proofs::Gathered::reads_taken))]
-    fn attributes(&self, at: Instance, range: AttrRange) -> [u64; 10]
-        requires on_board { IsOnBoard at self.now.events }
-        requires range { range.base + range.count ≤ 10 }
-        ensures { take range.count result ≡ reads range.base range.count at self.now.stacks self.now.events }
+    /// All attributes of an instance.
+    #[tactic(auto, using(crate::proofs::Interrupted::all_read))]
+    fn attributes(&self, place: Place) -> [u64; 10]
+        requires { IsPlace place self.now.events.instances }
+        ensures { result ≡ reads 0 10 place.at self.now.stacks self.now.events }
     {
-        let mut out = [0; 10];
-        for i in 0..range.count {
-            out[i as usize] = self.attribute(at, range.base + i);
-        }
-        out
+        let first = self.table.attributes_at(place);
+        let last = self.interrupted(place);
+        [
+            first[0], first[1], first[2], first[3], first[4], first[5], last.sepc, last.flags,
+            last.a6, last.a7,
+        ]
     }
 
     /// Writes words to the attributes of a range, all or none.
     #[tactic(auto, using(crate::proofs::Places::stays))]
-    fn write_range(&mut self, hart: u8, at: Instance, range: AttrRange, lo: u64) -> CallNote
+    fn write_range(&mut self, hart: u8, place: Place, range: AttrRange, lo: u64) -> CallNote
         requires hart { hart < self.old.events.harts }
-        requires on_board { IsOnBoard at self.old.events }
+        requires place { IsPlace place self.old.events.instances }
         requires range { range.base + range.count ≤ 10 }
         requires words { are_words lo range.count ≡ true }
-        ensures { Answers hart self.old self.new result (write_range lo at (reach hart self.old) range) }
+        ensures { Answers hart self.old self.new result (write_range lo place.at (reach hart self.old) range) }
     {
         let words = self.memory.read_words(lo, range.count);
         let values = &words[..range.count as usize];
         let stack = &mut self.stacks[hart as usize];
-        let code = self.table.check_write(at, range, values, stack.has(at));
+        let code = self
+            .table
+            .check_write_at(place, range, values, stack.has(place.at));
         if !matches!(code, SbiCode::Success) {
             return note(code);
         }
-        self.table.set_attrs(at, range.base, values);
-        stack.write_interrupted(range.base, values, at);
+        self.table.set_attrs_at(place, range.base, values);
+        stack.write_interrupted(range.base, values, place.at);
         CallNote {
             reply: Reply {
                 error: SbiCode::Success,
@@ -184,23 +188,24 @@ impl Firmware {
     }
 
     /// Puts the attributes of an event into memory.
-    #[tactic(auto, using(crate::proofs::Places::stays))]
+    #[tactic(auto, using(crate::proofs::Places::stays, crate::proofs::Gathered::range_read))]
     pub(super) fn read_attrs(&mut self, hart: u8, args: [u64; 5]) -> CallNote
         requires { hart < self.old.events.harts }
         ensures { Answers hart self.old self.new result (function hart Function.ReadAttrs args self.old.stacks
             (reach hart self.old)) }
     {
-        let at = match self.table.find(args[0], hart) {
-            Ok(at) => at,
+        let place = match self.table.look_up(args[0], hart) {
+            Ok(place) => place,
             Err(code) => return note(code),
         };
         let range = match find_range(args) {
             Ok(range) => range,
             Err(code) => return note(code),
         };
-        let words = self.attributes(at, range);
-        self.memory
-            .write_words(args[3], &words[..range.count as usize]);
+        let words = self.attributes(place);
+        let from = range.base as usize;
+        let to = from + range.count as usize;
+        self.memory.write_words(args[3], &words[from..to]);
         note(SbiCode::Success)
     }
 
@@ -211,12 +216,12 @@ impl Firmware {
         ensures { Answers hart self.old self.new result (function hart Function.WriteAttrs args self.old.stacks
             (reach hart self.old)) }
     {
-        let at = match self.table.find(args[0], hart) {
-            Ok(at) => at,
+        let place = match self.table.look_up(args[0], hart) {
+            Ok(place) => place,
             Err(code) => return note(code),
         };
         match find_range(args) {
-            Ok(range) => self.write_range(hart, at, range, args[3]),
+            Ok(range) => self.write_range(hart, place, range, args[3]),
             Err(code) => note(code),
         }
     }

@@ -9,10 +9,10 @@ use Rattle.sbi_sse.proofs.firmware.Firmware.register.Goals as goal
 pub invariant_of-self : goal.invariant_of-self
 invariant_of-self c = record {
   kept = subst (λ (t : Events). IsKept t c.self.inside.targets.masks c.self.inside.stacks.items)
-      (sym c.register.ensures.next)
-      (register_keeps (get_or c.args.args 1 0) (get_or c.args.args 2 0) c.in-Ok.at c.self.inside.table
+      (sym c.register_at.ensures.next)
+      (register_keeps (get_or c.args.args 1 0) (get_or c.args.args 2 0) c.in-Ok.place.at c.self.inside.table
       c.self.inside.targets.masks c.self.inside.stacks.items c.self.invariant.kept);
-  serves = subst (Serves c.self.inside.targets) (sym c.register.ensures.next)
-      (register_serves (get_or c.args.args 1 0) (get_or c.args.args 2 0) c.in-Ok.at c.self.inside.targets
-      c.self.inside.table c.in-Ok.ensures.on_board c.self.invariant.kept.each c.self.invariant.serves);
+  serves = subst (Serves c.self.inside.targets) (sym c.register_at.ensures.next)
+      (register_serves (get_or c.args.args 1 0) (get_or c.args.args 2 0) c.in-Ok.place.at c.self.inside.targets
+      c.self.inside.table c.in-Ok.ensures.place.on_board c.self.invariant.kept.each c.self.invariant.serves);
 }

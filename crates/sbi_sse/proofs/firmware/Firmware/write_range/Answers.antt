@@ -1,6 +1,5 @@
 -- Goals of `write_range` that the tactics leave open.
 use Rattle.std.proofs.Common.{◌≡◌, ◌∙◌, ◌<◌, length, ap, sym, subst, take, arith}
-use Rattle.sse_base.specs.declared.codes.SbiCode.{SbiCode}
 use Rattle.sse_base.specs.declared.codes.SbiCode.TheVariants.{Success}
 use Rattle.sse_base.specs.Events.{IsOnBoard}
 use Rattle.sbi_sse.specs.Kept.{Serves}
@@ -16,13 +15,13 @@ invariant_of-self-2 c =
     omega (arith, ap (λ (m : Machine). m.events.harts) c.self.view_is, c.self.invariant.kept.harts)
     in record {
       kept =
-          writing_keeps c.self.inside.table c.set_attrs.new.self c.self.inside.targets.masks
+          writing_keeps c.self.inside.table c.set_attrs_at.new.self c.self.inside.targets.masks
           c.self.inside.stacks.items c.args.hart c.args.range.base
           (take c.args.range.count c.read_words-words.result) c.index_mut-stack.result.now
-          c.write_interrupted.new.self c.args.at c.self.invariant.kept l
-          c.index_mut-stack.ensures.value c.write_interrupted.ensures c.set_attrs.ensures;
+          c.write_interrupted.new.self c.args.place.at c.self.invariant.kept l
+          c.index_mut-stack.ensures.value c.write_interrupted.ensures c.set_attrs_at.ensures;
       serves =
-          let ok : c.check_write-code.result ≡ Success =
+          let ok : c.check_write_at-code.result ≡ Success =
           elim c.match-matches.branch [
             | in-Success w ↦ w.in-Success.is
             | in_default w ↦ grind (
@@ -30,9 +29,9 @@ invariant_of-self-2 c =
               w.matches-is,
             )
           ]
-          in subst (Serves c.self.inside.targets) (sym c.set_attrs.ensures)
-          (write_serves c.args.range.base (take c.args.range.count c.read_words-words.result) c.args.at c.has.result
+          in subst (Serves c.self.inside.targets) (sym c.set_attrs_at.ensures)
+          (write_serves c.args.range.base (take c.args.range.count c.read_words-words.result) c.args.place.at c.has.result
           c.self.inside.targets c.self.inside.table
-          (subst (λ (m : Machine). IsOnBoard c.args.at m.events) (sym c.self.view_is) c.requires.on_board)
-          c.self.invariant.kept.each c.self.invariant.serves (sym c.check_write-code.ensures ∙ ok));
+          (subst (λ (m : Machine). IsOnBoard c.args.place.at m.events) (sym c.self.view_is) c.requires.place.on_board)
+          c.self.invariant.kept.each c.self.invariant.serves (sym c.check_write_at-code.ensures ∙ ok));
     }
