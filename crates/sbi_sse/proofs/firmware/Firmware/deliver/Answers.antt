@@ -17,14 +17,14 @@ use Rattle.sbi_sse.proofs.firmware.Firmware.deliver.Goals as goal
 pub place_of-place-requires : goal.place_of-place-requires
 place_of-place-requires c =
     (next_begins c.args.hart c.self.inside.table c.self.inside.targets.masks c.self.inside.stacks.items
-    c.self.inside.memory c.args.self.now c.in-Some.at c.in-Some.at c.self.invariant.kept c.self.view_is c.in-Some.ensures
-    refl).on_board
+    c.self.inside.memory c.args.self.now c.in-Some.at c.in-Some.at c.self.invariant.kept c.self.view_is
+    c.in-Some.ensures refl).on_board
 
 pub set_running_at-requires-clause-enabled : goal.set_running_at-requires-clause-enabled
 set_running_at-requires-clause-enabled c =
     (next_begins c.args.hart c.self.inside.table c.self.inside.targets.masks c.self.inside.stacks.items
-    c.self.inside.memory c.args.self.now c.place_of-place.result.at c.in-Some.at c.self.invariant.kept c.self.view_is c.in-Some.ensures
-    c.place_of-place.ensures.at).enabled
+    c.self.inside.memory c.args.self.now c.place_of-place.result.at c.in-Some.at c.self.invariant.kept c.self.view_is
+    c.in-Some.ensures c.place_of-place.ensures.at).enabled
 
 pub renew-requires-clause-place : goal.renew-requires-clause-place
 renew-requires-clause-place c =
@@ -42,8 +42,8 @@ deliver-requires c =
     let l : c.args.hart < length c.self.inside.stacks.items =
     omega (arith, ap (λ (m : Machine). m.events.harts) c.self.view_is, c.self.invariant.kept.harts)
     in let b = next_begins c.args.hart c.self.inside.table c.self.inside.targets.masks c.self.inside.stacks.items
-    c.self.inside.memory c.args.self.now c.in-Some.at c.in-Some.at c.self.invariant.kept c.self.view_is c.in-Some.ensures
-    refl
+    c.self.inside.memory c.args.self.now c.in-Some.at c.in-Some.at c.self.invariant.kept c.self.view_is
+    c.in-Some.ensures refl
     in room_for c.self.inside.table c.self.inside.targets.masks c.self.inside.stacks.items c.args.hart
     c.index_mut-stack.result.now c.in-Some.at c.self.invariant.kept l
     c.index_mut-stack.ensures.value b.on_board b.may_run b.enabled
@@ -54,8 +54,8 @@ invariant_of-self c =
     omega (arith, ap (λ (m : Machine). m.events.harts) c.self.view_is, c.self.invariant.kept.harts)
     in let own = c.place_of-place.ensures.at
     in let b = next_begins c.args.hart c.self.inside.table c.self.inside.targets.masks c.self.inside.stacks.items
-    c.self.inside.memory c.args.self.now c.place_of-place.result.at c.in-Some.at c.self.invariant.kept c.self.view_is c.in-Some.ensures
-    c.place_of-place.ensures.at
+    c.self.inside.memory c.args.self.now c.place_of-place.result.at c.in-Some.at c.self.invariant.kept c.self.view_is
+    c.in-Some.ensures c.place_of-place.ensures.at
     in record {
       kept = subst (λ (ms : List Bool). IsKept c.set_running_at.new.self ms (set c.self.inside.stacks.items c.args.hart
           c.deliver.new.self)) (sym c.renew.ensures.masks)

@@ -30,8 +30,8 @@ invariant_of-self-2 c =
             )
           ]
           in subst (Serves c.self.inside.targets) (sym c.set_attrs_at.ensures)
-          (write_serves c.args.range.base (take c.args.range.count c.read_words-words.result) c.args.place.at c.has.result
-          c.self.inside.targets c.self.inside.table
+          (write_serves c.args.range.base (take c.args.range.count c.read_words-words.result) c.args.place.at
+          c.has.result c.self.inside.targets c.self.inside.table
           (subst (λ (m : Machine). IsOnBoard c.args.place.at m.events) (sym c.self.view_is) c.requires.place.on_board)
           c.self.invariant.kept.each c.self.invariant.serves (sym c.check_write_at-code.ensures ∙ ok));
     }
