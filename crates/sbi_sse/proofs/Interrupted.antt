@@ -1,8 +1,10 @@
 -- What the INTERRUPTED attributes read, and that they are 0 where no handler runs.
-use Rattle.std.proofs.Common.{◌≡◌, ℕ, Bool, true, false, cond, List, [], ◌∷◌, get_or, refl, ap, sym, ◌∙◌, arith, inl, inr}
+use Rattle.std.proofs.Common.{◌≡◌, ℕ, Bool, true, false, cond, List, [], ◌∷◌, get_or, refl, ap, sym, ◌∙◌, arith, inl, inr, zero, suc, ◌≢◌, ◌<◌, ◌≤◌, length}
 use Rattle.std.specs.Prelude.{◌==◌, None, unwrap_or, map}
-use Rattle.std.proofs.lemmas.Bool.{cases_Bool}
+use Rattle.std.proofs.lemmas.Bool.{cases_Bool, cases_lt, eqb-true}
+use Rattle.sse_base.specs.declared.ids.EventId.{EventId}
 use Rattle.sse_base.specs.declared.ids.Instance.{Instance}
+use Rattle.sse_base.specs.declared.ids.Instance.TheVariants.{Local}
 use Rattle.sse_base.specs.Ids.{same_instance}
 use Rattle.sse_base.specs.Attributes.{STATUS, PRIORITY, CONFIG, PREFERRED_HART, ENTRY_PC, ENTRY_ARG}
 use Rattle.sse_base.specs.declared.arrows.State.{State}
@@ -51,6 +53,49 @@ not_interrupted attr x (s ∷ ss) e =
     let both = times_append x (ats s.frames) (running ss)
     in ap (λ o. unwrap_or o (interrupted_on attr x ss)) (no_frame attr x s.frames s.base (omega arith))
     ∙ not_interrupted attr x ss (omega arith)
+
+nowhere : (attr : ℕ) (x : Instance) (ss : List Stack)
+    → ((h : ℕ) (d : Stack) → h < length ss → times x (ats (get_or ss h d).frames) ≡ 0) → interrupted_on attr x ss ≡ 0
+nowhere attr x [] a = refl
+nowhere attr x (s ∷ ss) a =
+    ap (λ o. unwrap_or o (interrupted_on attr x ss)) (no_frame attr x s.frames s.base (a 0 s (omega arith)))
+    ∙ nowhere attr x ss (λ h d l. a (suc h) d (omega arith))
+
+-- one that runs on no other hart
+abbrev NotElsewhere : Instance → ℕ → List Stack → Type 0
+NotElsewhere x k ss = (h : ℕ) (d : Stack) → h < length ss → h ≢ k → times x (ats (get_or ss h d).frames) ≡ 0
+
+only_there : (attr : ℕ) (x : Instance) (k : ℕ) (s : Stack) (ss : List Stack) → NotElsewhere x k ss → k < length ss
+    → s ≡ get_or ss k s → interrupted_on attr x ss ≡ unwrap_or (interrupted attr x s.frames s.base) 0
+only_there attr x k s [] a l e = absurd (omega arith)
+only_there attr x zero s (r ∷ ss) a l e =
+    ap (unwrap_or (interrupted attr x r.frames r.base))
+    (nowhere attr x ss (λ h d m. a (suc h) d (omega arith) (λ q. absurd (omega arith))))
+    ∙ ap (λ (z : Stack). unwrap_or (interrupted attr x z.frames z.base) 0) (sym e)
+only_there attr x (suc k) s (r ∷ ss) a l e =
+    ap (λ o. unwrap_or o (interrupted_on attr x ss))
+    (no_frame attr x r.frames r.base (a 0 r (omega arith) (λ q. absurd (omega arith))))
+    ∙ only_there attr x k s ss (λ h d m n. a (suc h) d (omega arith) (λ q. n (omega arith))) (omega arith) e
+
+-- a local one
+local_there : (id : EventId) (k : ℕ) (t : Events) (ms : List Bool) (ss : List Stack) → IsKept t ms ss
+    → NotElsewhere (Local id k) k ss
+local_there id k t ms ss kept h d l away =
+    elim (cases_lt 0 (times (Local id k) (ats (get_or ss h d).frames))) [
+      | inl some ↦ absurd (away (sym (eqb-true k h (kept.own h d (Local id k) l some))))
+      | inr none ↦ omega arith
+    ]
+
+pub read_there : (attr : ℕ) (id : EventId) (k : ℕ) (t : Events) (ms : List Bool) (ss : List Stack) (s : Stack)
+    → IsKept t ms ss → k < length ss → s ≡ get_or ss k s →
+    interrupted_on attr (Local id k) ss ≡ unwrap_or (interrupted attr (Local id k) s.frames s.base) 0
+read_there attr id k t ms ss s kept l e =
+    only_there attr (Local id k) k s ss (local_there id k t ms ss kept) l e
+
+pub read_nowhere : (attr : ℕ) (id : EventId) (k : ℕ) (t : Events) (ms : List Bool) (ss : List Stack) → IsKept t ms ss
+    → length ss ≤ k → interrupted_on attr (Local id k) ss ≡ 0
+read_nowhere attr id k t ms ss kept past =
+    nowhere attr (Local id k) ss (λ h d l. local_there id k t ms ss kept h d l (λ q. absurd (omega arith)))
 
 -- an event that doesn't run
 pub rests : (attr : ℕ) (x : Instance) (t : Events) (ms : List Bool) (ss : List Stack) (s : State) → IsKept t ms ss

@@ -1,7 +1,7 @@
 //! Answers, and the stacks of all harts.
 
-ghost use Rattle.std.specs.Prelude.{◌≡◌, ◌≤◌, ◌+◌, ℕ, map, IfOk, true};
-ghost use Rattle.sse_base.specs.Contexts.{fresh_stack};
+ghost use Rattle.std.specs.Prelude.{◌≡◌, ◌≤◌, ◌+◌, ℕ, map, IfOk, true, unwrap_or};
+ghost use Rattle.sse_base.specs.Contexts.{fresh_stack, interrupted};
 ghost use Rattle.sse_base.specs.Calls.{no_words, interrupted_on, find_range, argument_at};
 ghost use Rattle.sse_base.specs.Words.{are_words};
 ghost use Rattle.hart_ctx.specs.Levels.{word_of};
@@ -75,6 +75,17 @@ pub fn nothing() -> Saved
     ensures { (attr : ℕ) → word_of attr result ≡ 0 }
 {
     NOTHING
+}
+
+/// The INTERRUPTED attributes of an event on this hart, and 0 where it doesn't run here.
+pub fn interrupted_here(stack: &Contexts, at: Instance) -> Saved
+    ensures { (attr : ℕ) → word_of attr result
+        ≡ unwrap_or (interrupted attr at stack.now.frames stack.now.base) 0 }
+{
+    match stack.saved(at) {
+        Some(saved) => saved,
+        None => nothing(),
+    }
 }
 
 /// The INTERRUPTED attributes of an event: of its handler's frame, on whichever hart that runs, and 0 where

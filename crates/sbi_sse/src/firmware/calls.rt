@@ -9,9 +9,9 @@ ghost use Rattle.sse_table.specs.Found.{IsPlace};
 ghost use Rattle.sbi_sse.specs.Answered.{Answers};
 
 use crate::firmware::Firmware;
-use crate::parts::{CallNote, elsewhere, find_range, interrupted, note, nothing};
+use crate::parts::{CallNote, elsewhere, find_range, interrupted, interrupted_here, note, nothing};
 use hart_ctx::Saved;
-use sse_base::{AttrRange, Function, Reply, SbiCode, State};
+use sse_base::{AttrRange, Function, Instance, Reply, SbiCode, State};
 use sse_table::Place;
 
 impl Firmware {
@@ -133,13 +133,26 @@ impl Firmware {
         note(SbiCode::Success)
     }
 
+    /// The INTERRUPTED attributes of an instance that may run: of a local one on its own hart.
+    fn interrupted_by(&self, at: Instance) -> Saved
+        ensures { (attr : ℕ) → word_of attr result ≡ interrupted_on attr at self.now.stacks }
+    {
+        match at {
+            Instance::Local { hart, .. } => match self.stacks.get(hart as usize) {
+                Some(stack) => interrupted_here(stack, at),
+                None => nothing(),
+            },
+            Instance::Global { .. } => interrupted(&self.stacks, at),
+        }
+    }
+
     /// The INTERRUPTED attributes of an instance, which are 0 where it doesn't run.
     fn interrupted(&self, place: Place) -> Saved
         requires { IsPlace place self.now.events.instances }
         ensures { (attr : ℕ) → word_of attr result ≡ interrupted_on attr place.at self.now.stacks }
     {
         match self.table.event_at(place).state {
-            State::Running => interrupted(&self.stacks, place.at),
+            State::Running => self.interrupted_by(place.at),
             _ => nothing(),
         }
     }
