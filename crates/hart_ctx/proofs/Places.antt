@@ -9,7 +9,8 @@ use Rattle.sse_base.specs.Calls.{with_interrupted, with_interrupted_triple, with
 use Rattle.hart_ctx.specs.declared.regs.Regs.{Regs}
 use Rattle.hart_ctx.specs.declared.kept.Kept.{Kept}
 use Rattle.hart_ctx.specs.Registers.{triple_in, live_of}
-use Rattle.hart_ctx.specs.Levels.{triple_kept, frames_from, base_from, frame_of, stack_of, kept_place, saved_with, word_of}
+use Rattle.hart_ctx.specs.Levels.{triple_kept, frames_from, base_from, frame_of, stack_of, kept_place, saved_with}
+use Rattle.hart_ctx.specs.Running.{word_of}
 use Rattle.hart_ctx.proofs.Frames.{flags_again, below_frames, with_below_frames, under_from}
 
 pub kept_at_most : (at : Instance) (ks : List Kept) → kept_place at ks ≤ length ks

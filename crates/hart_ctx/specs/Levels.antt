@@ -53,7 +53,3 @@ saved_with base words s =
       a6 = word_for 8 base words s.a6;
       a7 = word_for 9 base words s.a7;
     }
-
--- one of the four INTERRUPTED attributes
-abbrev pub word_of : ℕ → Saved → ℕ
-word_of attr s = if attr == 6 then s.sepc else (if attr == 7 then s.flags else (if attr == 8 then s.a6 else s.a7))

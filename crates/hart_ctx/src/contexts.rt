@@ -4,8 +4,7 @@ ghost use Rattle.std.specs.Prelude.{◌≡◌, ℕ, ◌<◌, ◌≤◌, length, 
 ghost use Rattle.sse_base.specs.Contexts.{fresh_stack, with_pc, deliver, complete, newest, has_frame, interrupted};
 ghost use Rattle.sse_base.specs.Calls.{with_interrupted};
 ghost use Rattle.hart_ctx.specs.Registers.{regs_of, with_regs};
-ghost use Rattle.hart_ctx.specs.Levels.{word_of};
-ghost use Rattle.hart_ctx.specs.Running.{running_in};
+ghost use Rattle.hart_ctx.specs.Running.{running_in, word_of};
 
 use crate::kept::Kept;
 use crate::regs::{Regs, Saved, enter, resume};

@@ -3,7 +3,8 @@
 ghost use Rattle.std.specs.Prelude.{◌≡◌};
 ghost use Rattle.sse_base.specs.Calls.{with_interrupted};
 ghost use Rattle.hart_ctx.specs.declared.regs.Regs.{Regs};
-ghost use Rattle.hart_ctx.specs.Levels.{kept_place, saved_with, word_of, stack_of};
+ghost use Rattle.hart_ctx.specs.Levels.{kept_place, saved_with, stack_of};
+ghost use Rattle.hart_ctx.specs.Running.{word_of};
 
 use crate::kept::Kept;
 use crate::regs::Saved;

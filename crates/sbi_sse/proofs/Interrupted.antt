@@ -13,7 +13,7 @@ use Rattle.sse_base.specs.Events.{Events, event, is_running}
 use Rattle.sse_base.specs.Contexts.{Frame, Triple, Stack, bit, interrupted}
 use Rattle.sse_base.specs.Calls.{attribute, interrupted_on, reads}
 use Rattle.hart_ctx.specs.declared.regs.Saved.{Saved}
-use Rattle.hart_ctx.specs.Levels.{word_of}
+use Rattle.hart_ctx.specs.Running.{word_of}
 use Rattle.sbi_sse.specs.Kept.{times, ats, running, IsKept}
 use Rattle.sbi_sse.proofs.Counting.{times_append}
 

@@ -4,7 +4,7 @@ ghost use Rattle.std.specs.Prelude.{◌≡◌, ◌≤◌, ◌+◌, ℕ, map, IfO
 ghost use Rattle.sse_base.specs.Contexts.{fresh_stack, interrupted};
 ghost use Rattle.sse_base.specs.Calls.{no_words, interrupted_on, find_range, argument_at};
 ghost use Rattle.sse_base.specs.Words.{are_words};
-ghost use Rattle.hart_ctx.specs.Levels.{word_of};
+ghost use Rattle.hart_ctx.specs.Running.{word_of};
 ghost use Rattle.sbi_sse.specs.Elsewhere.{elsewhere};
 
 use hart_ctx::{Contexts, Memory, Saved};

@@ -4,7 +4,7 @@ ghost use Rattle.std.specs.Prelude.{◌≡◌, ◌<◌, ◌≤◌, ◌+◌, ℕ,
 ghost use Rattle.sse_base.specs.Machine.{reach};
 ghost use Rattle.sse_base.specs.Words.{are_words};
 ghost use Rattle.sse_base.specs.Calls.{function, interrupted_on, reads, write_range};
-ghost use Rattle.hart_ctx.specs.Levels.{word_of};
+ghost use Rattle.hart_ctx.specs.Running.{word_of};
 ghost use Rattle.sse_table.specs.Found.{IsPlace};
 ghost use Rattle.sbi_sse.specs.Answered.{Answers};
 
