@@ -59,8 +59,8 @@ pub fn put_word<K: Sink>(line: &mut Line<'_, K>, word: &[u8])
     ensures sink { sink_of line.new ≡ sink_of line.old }
     ensures same_reference { SameSink line.new line.old }
 {
-    for byte in word {
-        line.text.push(*byte);
+    if line.text.try_extend_from_slice(word).is_err() {
+        unreachable!()
     }
 }
 

@@ -49,9 +49,8 @@ fn value_of(base: u64, digits: &[u8]) -> Option<u64>
 pub fn number(word: &[u8]) -> Option<u64>
     ensures { result ≡ number word.now }
 {
-    if word.starts_with(b"0x") {
-        let (_, digits) = word.split_at(2);
-        return value_of(16, digits);
+    match word {
+        [b'0', b'x', digits @ ..] => value_of(16, digits),
+        _ => value_of(10, word),
     }
-    value_of(10, word)
 }
