@@ -11,7 +11,6 @@ use Rattle.reri_bank.proofs.Stands.{get-set_same, get-set_other}
 use Rattle.board_plan.specs.declared.notes.Published.{Published}
 use Rattle.board_plan.specs.declared.notes.Step.{Step}
 use Rattle.board_plan.specs.declared.notes.Step.TheVariants.{Hart, Reporter}
-use Rattle.board_plan.specs.declared.notes.StepNote.{StepNote}
 use Rattle.board_plan.specs.declared.plan.Plan.{Plan}
 use Rattle.board_plan.specs.declared.plan.Reporter as plan_reporter
 use Rattle.board_plan.specs.Plans.{IsPlan, AreReports, most_steps}
@@ -61,7 +60,7 @@ none_reported plan r i report is =
 
 -- ---- The start ----
 
-pub keeps_fresh : (plan : Plan) → IsPlan plan → AreListsReports plan → Keeps (fresh plan) [] []
+pub keeps_fresh : (plan : Plan) → IsPlan plan → AreListsReports plan → Keeps (fresh plan) []
 unfolding ran
 keeps_fresh plan is_plan reports =
     record {
@@ -76,7 +75,6 @@ keeps_fresh plan is_plan reports =
       };
       reached = reached_start plan;
       many = refl;
-      notes_are = refl;
       published_are = refl;
       few_published = omega arith;
       lists_reports = reports;
@@ -100,13 +98,13 @@ copies_few : (o : Option Published) → length (with_copy o []) ≤ 1
 copies_few None = omega arith
 copies_few (Some p) = omega arith
 
-keeps_on : (b c : Played) (t : Step) (d : Stepped) (notes : List StepNote) (published : List Published)
-    → Keeps b notes published → Goes b c t d → d.state.steps ≡ suc (state_of b).steps → IsReached b.plan d.state
+keeps_on : (b c : Played) (t : Step) (d : Stepped) (published : List Published)
+    → Keeps b published → Goes b c t d → d.state.steps ≡ suc (state_of b).steps → IsReached b.plan d.state
     → length c.acts ≡ length b.acts → ((r : ℕ) → acts_made r d.state ≡ length (acts_of c r))
     → ((r : ℕ) (p : plan_reporter.Reporter) → slice_get b.plan.reporters r ≡ Some p → is_none p.device ≡ true
     → acts_of c r ≡ take (length (acts_of c r)) p.acts)
-    → AreReports (acts_of c) → Keeps c (notes ++ d.note ∷ []) (published ++ with_copy d.published [])
-keeps_on b c t d notes published keeps goes number reached acts used lists reports =
+    → AreReports (acts_of c) → Keeps c (published ++ with_copy d.published [])
+keeps_on b c t d published keeps goes number reached acts used lists reports =
     let plan_is = goes.plan in
     let state = state_is b c t d goes in
     let many : (state_of c).steps ≡ length c.steps =
@@ -135,9 +133,6 @@ keeps_on b c t d notes published keeps goes number reached acts used lists repor
       reached = subst (λ (p : Plan). IsReached p (state_of c)) (sym plan_is)
           (subst (IsReached b.plan) (sym state) reached);
       many = many;
-      notes_are = ap (λ ns. ns ++ d.note ∷ []) keeps.notes_are
-          ∙ sym (ap (λ (r : Ran). map (λ (n : Noted). n.note) r.notes) goes.run
-          ∙ map_push (λ (n : Noted). n.note) (own_run b).notes (record { by = t; note = d.note }));
       published_are = ap (λ ps. ps ++ with_copy d.published []) keeps.published_are
           ∙ sym (ap (λ (r : Ran). r.published) goes.run);
       few_published = omega (
@@ -154,12 +149,12 @@ keeps_on b c t d notes published keeps goes number reached acts used lists repor
     one : (n : ℕ) → n + 1 ≡ suc n
     one n = omega arith
 
-pub keeps_hart : (h : ℕ) (b : Played) (d : Stepped) (notes : List StepNote) (published : List Published)
-    → h < b.plan.harts → Keeps b notes published → hart_step h b.plan (state_of b) ≡ Some d
-    → Keeps (with_step (Hart h) b) (notes ++ d.note ∷ []) (published ++ with_copy d.published [])
-keeps_hart h b d notes published low keeps is =
+pub keeps_hart : (h : ℕ) (b : Played) (d : Stepped) (published : List Published)
+    → h < b.plan.harts → Keeps b published → hart_step h b.plan (state_of b) ≡ Some d
+    → Keeps (with_step (Hart h) b) (published ++ with_copy d.published [])
+keeps_hart h b d published low keeps is =
     let makes = hart_makes h b.plan (state_of b) d is in
-    keeps_on b (with_step (Hart h) b) (Hart h) d notes published keeps
+    keeps_on b (with_step (Hart h) b) (Hart h) d published keeps
     (record { plan = refl; steps = refl; run = hart_goes_on h b d is })
     makes.number (reached_hart h b.plan (state_of b) d low keeps.reached is) refl
     (λ r. same_made (state_of b) d.state r makes.same ∙ keeps.played.used r) keeps.played.listed keeps.played.reports
@@ -270,16 +265,16 @@ reports_on r a b there reports last k i report =
           (sym (acts_other r k a b other)) (reports k i report)
     ]
 
-pub keeps_reporter : (r : ℕ) (a : Act) (b : Played) (d : Stepped) (notes : List StepNote)
-    (published : List Published) → r < length b.plan.reporters → Keeps b notes published
+pub keeps_reporter : (r : ℕ) (a : Act) (b : Played) (d : Stepped) (published : List Published)
+    → r < length b.plan.reporters → Keeps b published
     → (is_list b.plan r ≡ true → Some a ≡ listed b r) → IsReport (Some a)
     → reporter_step r b.plan (Some a) (state_of b) ≡ Some d
-    → Keeps (with_step (Reporter r) (with_act r a b)) (notes ++ d.note ∷ []) (published ++ with_copy d.published [])
-keeps_reporter r a b d notes published low keeps handed report is =
+    → Keeps (with_step (Reporter r) (with_act r a b)) (published ++ with_copy d.published [])
+keeps_reporter r a b d published low keeps handed report is =
     let c = with_step (Reporter r) (with_act r a b) in
     let there : r < length b.acts = omega (arith, low, keeps.played.reporters) in
     let makes = reporter_makes r b.plan (state_of b) (Some a) d is in
-    keeps_on b c (Reporter r) d notes published keeps
+    keeps_on b c (Reporter r) d published keeps
     (record {
       plan = refl;
       steps = refl;

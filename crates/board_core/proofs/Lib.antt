@@ -1,7 +1,9 @@
+pub mod BoardNotes
 pub mod Early
 pub mod Going
 pub mod Keeping
 pub mod Onward
 pub mod Spent
 pub mod Steps
+pub mod Texts
 pub mod Safe

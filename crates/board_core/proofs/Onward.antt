@@ -1,5 +1,5 @@
--- From what the steps of the parts say to what a board keeps.
-use Rattle.std.proofs.Common.{◌≡◌, ℕ, suc, ◌<◌, ◌≤◌, true, false, List, [], ◌∷◌, ◌++◌, map, length, get_or, set, slice_get, Option, Some, None, Bor, is_some, refl, sym, ap, ◌∙◌, subst, arith}
+-- From what the steps of the parts say to what a board without notes keeps.
+use Rattle.std.proofs.Common.{◌≡◌, ℕ, suc, ◌<◌, ◌≤◌, Bool, true, false, List, [], ◌∷◌, ◌++◌, map, length, get_or, set, slice_get, Option, Some, None, Bor, is_some, refl, sym, ap, ◌∙◌, subst, arith}
 use Rattle.std.specs.List.{HoldsAt}
 use Rattle.std.specs.Option.{MatchOption, option_copied, option_map}
 use Rattle.std.proofs.Math.Seq.{map-set_same}
@@ -18,6 +18,7 @@ use Rattle.board_plan.specs.declared.notes.StepNote.TheVariants as note
 use Rattle.board_plan.specs.declared.plan.BankDecl.{BankDecl}
 use Rattle.board_plan.specs.declared.plan.Plan.{Plan}
 use Rattle.board_plan.specs.declared.plan.Reporter as plan_reporter
+use Rattle.board_plan.specs.Notes.{has_text}
 use Rattle.board_plan.specs.Plans.{IsPlan, most_steps}
 use Rattle.board_plan.specs.State.{BoardState, bank_plan, start_state}
 use Rattle.board_plan.specs.Step.{Stepped, hart_step, made_by, reporter_step}
@@ -27,13 +28,13 @@ use Rattle.board_fates.specs.Tallied.{IsNext, Tallies}
 use Rattle.board_fates.proofs.Runs.{hart_is_next, reporter_is_next}
 use Rattle.board_parts.specs.declared.outcome.Outcome.{Outcome}
 use Rattle.board_parts.specs.declared.parts.Parts.{Parts}
-use Rattle.board_parts.specs.Came.{Steps, outcome_of}
-use Rattle.board_parts.specs.Shows.{Shows, limits}
+use Rattle.board_parts.specs.Came.{Steps, came, outcome_of}
+use Rattle.board_parts.specs.Shows.{AreEarly, Shows, limits}
 use Rattle.board_core.specs.declared.kept.Kept.{Kept}
 use Rattle.board_core.specs.declared.log.Log.{Log}
-use Rattle.board_core.specs.declared.board.Board.TheInside.{Inside}
-use Rattle.board_core.specs.Inside.{IsBoard, acts_in, played, rooms_in}
-use Rattle.board_core.specs.Played.{IsReport, Played, AreListsReports, acts_of, after_act, after_reporter, fresh, is_list, listed, note_of, own_run, state_of, with_act, with_step}
+use Rattle.board_core.specs.declared.brief.Brief.TheInside.{Inside}
+use Rattle.board_core.specs.Inside.{IsBrief, acts_in, played, rooms_in}
+use Rattle.board_core.specs.Played.{IsReport, Played, AreListsReports, acts_of, after_act, after_hart, after_hart_step, after_reporter, fresh, is_list, listed, note_of, own_run, state_of, with_act, with_step}
 use Rattle.board_core.specs.Reached.{IsReached, Keeps}
 use Rattle.board_core.specs.Rooms.{HasRoom, HasSameRoom}
 use Rattle.board_core.proofs.Early.{hart_makes, reporter_makes}
@@ -41,6 +42,7 @@ use Rattle.board_core.proofs.Going.{gone_on}
 use Rattle.board_core.proofs.Keeping.{keeps_fresh, keeps_hart, keeps_reporter}
 use Rattle.board_core.proofs.Spent.{few_steps, reached_hart, reached_reporter}
 use Rattle.board_core.proofs.Steps.{hart_goes_on, reporter_goes_on}
+use Rattle.board_core.proofs.Texts.{hart_has_text, reporter_has_text}
 
 -- ---- The outcome of a step ----
 
@@ -52,13 +54,20 @@ pub record Came (o : Option Stepped) (c : Outcome) : Type 0 where
   pub is : o ≡ Some made
   pub told : c ≡ outcome_of made.note made.published
 
-came : (o : Option Stepped) (c : Outcome) → Some c ≡ outcomes o → Came o c
-came None c is = absurd (none-some c (sym is))
-came (Some d) c is = record { made = d; is = refl; told = same_Some c (outcome_of d.note d.published) is }
+it_came : (o : Option Stepped) (c : Outcome) → Some c ≡ outcomes o → Came o c
+it_came None c is = absurd (none-some c (sym is))
+it_came (Some d) c is = record { made = d; is = refl; told = same_Some c (outcome_of d.note d.published) is }
 
 not_made : (o : Option Stepped) → None ≡ outcomes o → o ≡ None
 not_made None is = refl
 not_made (Some d) is = absurd (none-some (outcome_of d.note d.published) is)
+
+pub none_noted : (plan : Plan) (s : BoardState) (o : Option Stepped) (p : Parts) → Steps plan s o p None
+    → note.Idle ≡ note_of o
+none_noted plan s o p steps = ap note_of (sym (not_made o steps.outcome))
+
+step_noted : (o : Option Stepped) (c : Outcome) → Came o c → c.note ≡ note_of o
+step_noted o c d = ap (λ (x : Outcome). x.note) d.told ∙ sym (ap note_of d.is)
 
 -- ---- A new board ----
 
@@ -66,27 +75,26 @@ fresh_state : (plan : Plan) → state_of (fresh plan) ≡ start_state plan
 unfolding ran
 fresh_state plan = refl
 
-fresh_notes : (plan : Plan) → (own_run (fresh plan)).notes ≡ []
+pub fresh_notes : (plan : Plan) → (own_run (fresh plan)).notes ≡ []
 unfolding ran
 fresh_notes plan = refl
 
 abbrev pub no_act : List Act
 no_act = []
 
-pub fresh_board : (y : Inside) (plan : Plan) → IsPlan plan → AreListsReports plan → y.plan ≡ plan
+pub fresh_brief : (y : Inside) (plan : Plan) → IsPlan plan → AreListsReports plan → y.plan ≡ plan
     → Shows plan (start_state plan) y.parts → acts_in y.acts.items ≡ map (λ r. no_act) plan.reporters
-    → rooms_in y.acts.items ≡ limits plan → y.log.steps.items.items ≡ [] → y.log.notes.items.items ≡ []
-    → y.log.published.items.items ≡ [] → HasRoom (most_steps plan) y.log → Tallies plan [] y.tally → IsBoard y
-fresh_board y plan is_plan reports same shows acts rooms steps notes published room tallies =
+    → rooms_in y.acts.items ≡ limits plan → y.log.steps.items.items ≡ [] → y.log.published.items.items ≡ []
+    → HasRoom (most_steps plan) y.log → Tallies plan [] y.tally → IsBrief y
+fresh_brief y plan is_plan reports same shows acts rooms steps published room tallies =
     let is : played y ≡ fresh plan = λ i. record { plan = same i; acts = acts i; steps = steps i } in
     let counted : Tallies plan (own_run (fresh plan)).notes y.tally =
     subst (λ ns. Tallies plan ns y.tally) (sym (fresh_notes plan)) tallies in
     let from : Shows plan (state_of (fresh plan)) y.parts =
     subst (λ (s : BoardState). Shows plan s y.parts) (sym (fresh_state plan)) shows in
     record {
-      keeps = subst (λ (b : Played). Keeps b y.log.notes.items.items y.log.published.items.items) (sym is)
-          (subst (λ (ns : List StepNote). Keeps (fresh plan) ns y.log.published.items.items) (sym notes)
-          (subst (Keeps (fresh plan) []) (sym published) (keeps_fresh plan is_plan reports)));
+      keeps = subst (λ (b : Played). Keeps b y.log.published.items.items) (sym is)
+          (subst (Keeps (fresh plan)) (sym published) (keeps_fresh plan is_plan reports));
       shows = subst (λ (p : Plan). Shows p (state_of (played y)) y.parts) (sym same)
           (subst (λ (b : Played). Shows plan (state_of b) y.parts) (sym is) from);
       tallies = subst (λ (p : Plan). Tallies p (own_run (played y)).notes y.tally) (sym same)
@@ -98,16 +106,16 @@ fresh_board y plan is_plan reports same shows acts rooms steps notes published r
 
 -- ---- No step ----
 
-pub idle_board : (x y : Inside) (o : Option Stepped) → IsBoard x → y.plan ≡ x.plan → y.acts ≡ x.acts → y.log ≡ x.log
+pub idle_brief : (x y : Inside) (o : Option Stepped) → IsBrief x → y.plan ≡ x.plan → y.acts ≡ x.acts → y.log ≡ x.log
     → y.tally ≡ x.tally → y.parts.firmware.events.harts ≡ x.parts.firmware.events.harts
-    → Steps x.plan (state_of (played x)) o y.parts None → IsBoard y
-idle_board x y o board plan acts log tally harts steps =
+    → Steps x.plan (state_of (played x)) o y.parts None → IsBrief y
+idle_brief x y o board plan acts log tally harts steps =
     let none = not_made o steps.outcome in
     let shows : Shows x.plan (state_of (played x)) y.parts =
     subst (λ (q : Option Stepped). Shows x.plan (state_after (state_of (played x)) q) y.parts) none steps.shows in
     let same : record x { parts = y.parts } ≡ y =
     λ i. record { plan = sym plan i; parts = y.parts; acts = sym acts i; log = sym log i; tally = sym tally i } in
-    subst IsBoard same (record {
+    subst IsBrief same (record {
       keeps = board.keeps;
       shows = shows;
       tallies = board.tallies;
@@ -121,32 +129,26 @@ idle_board x y o board plan acts log tally harts steps =
 -- there is room for one step more
 pub record HasPlace (log : Log) : Type 0 where
   pub steps : length log.steps.items.items < log.steps.room
-  pub notes : length log.notes.items.items < log.notes.room
   pub published : length log.published.items.items < log.published.room
 
-one_more_fits : (x : Inside) (d : Stepped) → IsBoard x → d.state.steps ≡ suc (state_of (played x)).steps
+one_more_fits : (x : Inside) (d : Stepped) → IsBrief x → d.state.steps ≡ suc (state_of (played x)).steps
     → IsReached x.plan d.state → HasPlace x.log
 one_more_fits x d board number reached =
     let keeps = board.keeps in
     let few = few_steps x.plan d.state reached in
-    let ns = (own_run (played x)).notes in
-    let noted : length x.log.notes.items.items ≡ length x.log.steps.items.items =
-    ap length keeps.notes_are ∙ length-map ns (λ (n : Noted). n.note) ∙ sym (length-map ns (λ (n : Noted). n.by))
-    ∙ ap length keeps.played.all_made in
     record {
       steps = omega (arith, few, number, keeps.many, board.room.steps);
-      notes = omega (arith, few, number, keeps.many, board.room.notes, noted);
       published = omega (arith, few, number, keeps.many, board.room.published, keeps.few_published);
     }
 
-on_board : (x y : Inside) (b : Played) → IsBoard x → y.plan ≡ x.plan
+on_brief : (x y : Inside) (b : Played) → IsBrief x → y.plan ≡ x.plan
     → y.parts.firmware.events.harts ≡ x.parts.firmware.events.harts → played y ≡ b
-    → Keeps b y.log.notes.items.items y.log.published.items.items → Shows x.plan (state_of b) y.parts
+    → Keeps b y.log.published.items.items → Shows x.plan (state_of b) y.parts
     → Tallies x.plan (own_run b).notes y.tally → HasSameRoom x.log y.log
-    → rooms_in y.acts.items ≡ rooms_in x.acts.items → IsBoard y
-on_board x y b board plan harts is keeps shows tallies room rooms =
+    → rooms_in y.acts.items ≡ rooms_in x.acts.items → IsBrief y
+on_brief x y b board plan harts is keeps shows tallies room rooms =
     record {
-      keeps = subst (λ (c : Played). Keeps c y.log.notes.items.items y.log.published.items.items) (sym is) keeps;
+      keeps = subst (λ (c : Played). Keeps c y.log.published.items.items) (sym is) keeps;
       shows = subst (λ (p : Plan). Shows p (state_of (played y)) y.parts) (sym plan)
           (subst (λ (c : Played). Shows x.plan (state_of c) y.parts) (sym is) shows);
       tallies = subst (λ (p : Plan). Tallies p (own_run (played y)).notes y.tally) (sym plan)
@@ -154,7 +156,6 @@ on_board x y b board plan harts is keeps shows tallies room rooms =
       harts = harts ∙ board.harts ∙ ap (λ (p : Plan). p.harts) (sym plan);
       room = record {
         steps = room.steps ∙ board.room.steps ∙ ap most_steps (sym plan);
-        notes = room.notes ∙ board.room.notes ∙ ap most_steps (sym plan);
         published = room.published ∙ board.room.published ∙ ap most_steps (sym plan);
       };
       room_for_acts = rooms ∙ board.room_for_acts ∙ ap limits (sym plan);
@@ -163,21 +164,15 @@ on_board x y b board plan harts is keeps shows tallies room rooms =
 -- what was added to the lists
 pub record IsLogged (x y : Log) (t : Step) (c : Outcome) : Type 0 where
   pub steps : y.steps.items.items ≡ x.steps.items.items ++ t ∷ []
-  pub notes : y.notes.items.items ≡ x.notes.items.items ++ c.note ∷ []
   pub published : y.published.items.items ≡ x.published.items.items ++ with_copy c.published []
   pub room : HasSameRoom x y
 
 keeps_as : (x y : Log) (b : Played) (t : Step) (c : Outcome) (d : Stepped) → c ≡ outcome_of d.note d.published
     → IsLogged x y t c
-    → Keeps b (x.notes.items.items ++ d.note ∷ []) (x.published.items.items ++ with_copy d.published [])
-    → Keeps b y.notes.items.items y.published.items.items
+    → Keeps b (x.published.items.items ++ with_copy d.published []) → Keeps b y.published.items.items
 keeps_as x y b t c d told logged keeps =
-    let notes : y.notes.items.items ≡ x.notes.items.items ++ d.note ∷ [] =
-    logged.notes ∙ ap (λ (o : Outcome). x.notes.items.items ++ o.note ∷ []) told in
-    let published : y.published.items.items ≡ x.published.items.items ++ with_copy d.published [] =
-    logged.published ∙ ap (λ (o : Outcome). x.published.items.items ++ with_copy o.published []) told in
-    subst (λ (ns : List StepNote). Keeps b ns y.published.items.items) (sym notes)
-    (subst (Keeps b (x.notes.items.items ++ d.note ∷ [])) (sym published) keeps)
+    subst (Keeps b) (sym (logged.published
+    ∙ ap (λ (o : Outcome). x.published.items.items ++ with_copy o.published []) told)) keeps
 
 shows_made : (plan : Plan) (s : BoardState) (o : Option Stepped) (p : Parts) (c : Outcome) (d : Stepped)
     → o ≡ Some d → Steps plan s o p (Some c) → Shows plan d.state p
@@ -190,7 +185,7 @@ HasCounted old new n =
     (plan : Plan) (ns : List Noted) (by : Step) → Tallies plan ns old → IsNext plan ns n
     → Tallies plan (ns ++ record { by = by; note = n } ∷ []) new
 
-few_notes : (x : Inside) → IsBoard x → length (own_run (played x)).notes ≤ 160000
+few_notes : (x : Inside) → IsBrief x → length (own_run (played x)).notes ≤ 160000
 few_notes x board =
     let played_is = board.keeps.played in
     omega (
@@ -201,7 +196,7 @@ few_notes x board =
       played_is.is_plan.few_steps,
     )
 
-counts_on : (x : Inside) (t : Step) (c : Outcome) (d : Stepped) (new : Tally) → IsBoard x
+counts_on : (x : Inside) (t : Step) (c : Outcome) (d : Stepped) (new : Tally) → IsBrief x
     → c ≡ outcome_of d.note d.published → HasCounted x.tally new c.note
     → IsNext x.plan (own_run (played x)).notes d.note → Tallies x.plan (gone_on (own_run (played x)) t d).notes new
 counts_on x t c d new board told counts next =
@@ -214,27 +209,47 @@ abbrev HartCame : Inside → ℕ → Parts → Outcome → Type 0
 HartCame x h p c =
     Steps x.plan (state_of (played x)) (hart_step h x.plan (state_of (played x))) p (Some c)
 
-pub hart_fits : (x : Inside) (h : ℕ) (p : Parts) (c : Outcome) → h < x.plan.harts → IsBoard x → HartCame x h p c
+-- what came of a step that was made, and of none
+abbrev HartCalled : Inside → ℕ → Parts → Bool → Outcome → Type 0
+HartCalled x h p q c =
+    (plan : Plan) (s : BoardState) → Shows plan s x.parts → Steps plan s (hart_step h plan s) p (came q c)
+
+abbrev HartStays : Inside → ℕ → Parts → Type 0
+HartStays x h p = Steps x.plan (state_of (played x)) (hart_step h x.plan (state_of (played x))) p None
+
+pub hart_came : (x : Inside) (h : ℕ) (p : Parts) (q : Bool) (c : Outcome) → IsBrief x → HartCalled x h p q c
+    → q ≡ true → HartCame x h p c
+hart_came x h p q c board called is =
+    let s = state_of (played x) in
+    subst (λ b. Steps x.plan s (hart_step h x.plan s) p (came b c)) is (called x.plan s board.shows)
+
+pub hart_stays : (x : Inside) (h : ℕ) (p : Parts) (q : Bool) (c : Outcome) → IsBrief x → HartCalled x h p q c
+    → q ≡ false → HartStays x h p
+hart_stays x h p q c board called is =
+    let s = state_of (played x) in
+    subst (λ b. Steps x.plan s (hart_step h x.plan s) p (came b c)) is (called x.plan s board.shows)
+
+pub hart_fits : (x : Inside) (h : ℕ) (p : Parts) (c : Outcome) → h < x.plan.harts → IsBrief x → HartCame x h p c
     → HasPlace x.log
 hart_fits x h p c low board steps =
     let s = state_of (played x) in
-    let d = came (hart_step h x.plan s) c steps.outcome in
+    let d = it_came (hart_step h x.plan s) c steps.outcome in
     one_more_fits x d.made board (hart_makes h x.plan s d.made d.is).number
     (reached_hart h x.plan s d.made low board.keeps.reached d.is)
 
-pub hart_board : (x y : Inside) (h : ℕ) (c : Outcome) → h < x.plan.harts → IsBoard x → y.plan ≡ x.plan
+pub hart_brief : (x y : Inside) (h : ℕ) (c : Outcome) → h < x.plan.harts → IsBrief x → y.plan ≡ x.plan
     → y.acts ≡ x.acts → y.parts.firmware.events.harts ≡ x.parts.firmware.events.harts → HartCame x h y.parts c
-    → IsLogged x.log y.log (Hart h) c → HasCounted x.tally y.tally c.note → IsBoard y
-hart_board x y h c low board plan acts harts steps logged counts =
+    → IsLogged x.log y.log (Hart h) c → HasCounted x.tally y.tally c.note → IsBrief y
+hart_brief x y h c low board plan acts harts steps logged counts =
     let s = state_of (played x) in
-    let d = came (hart_step h x.plan s) c steps.outcome in
+    let d = it_came (hart_step h x.plan s) c steps.outcome in
     let b = with_step (Hart h) (played x) in
     let is : played y ≡ b =
     λ i. record { plan = plan i; acts = acts_in (acts i).items; steps = logged.steps i } in
     let goes = hart_goes_on h (played x) d.made d.is in
-    on_board x y b board plan harts is
+    on_brief x y b board plan harts is
     (keeps_as x.log y.log b (Hart h) c d.made d.told logged
-    (keeps_hart h (played x) d.made x.log.notes.items.items x.log.published.items.items low board.keeps d.is))
+    (keeps_hart h (played x) d.made x.log.published.items.items low board.keeps d.is))
     (subst (λ (r : Ran). Shows x.plan r.state y.parts) (sym goes)
     (shows_made x.plan s (hart_step h x.plan s) y.parts c d.made d.is steps))
     (subst (λ (r : Ran). Tallies x.plan r.notes y.tally) (sym goes)
@@ -242,17 +257,65 @@ hart_board x y h c low board plan acts harts steps logged counts =
     (hart_is_next x.plan (acts_of (played x)) (played x).steps h d.made (few_notes x board) d.is)))
     logged.room (λ i. rooms_in (acts i).items)
 
+pub hart_next : (x y : Inside) (h : ℕ) (c : Outcome) → y.plan ≡ x.plan → y.acts ≡ x.acts → HartCame x h y.parts c
+    → IsLogged x.log y.log (Hart h) c → played y ≡ after_hart h (played x)
+hart_next x y h c plan acts steps logged =
+    let d = it_came (hart_step h x.plan (state_of (played x))) c steps.outcome in
+    (λ i. record { plan = plan i; acts = acts_in (acts i).items; steps = logged.steps i })
+    ∙ sym (ap (after_hart_step h (played x)) d.is)
+
+pub hart_note : (x : Inside) (h : ℕ) (p : Parts) (c : Outcome) → HartCame x h p c
+    → c.note ≡ note_of (hart_step h x.plan (state_of (played x)))
+hart_note x h p c steps =
+    let o = hart_step h x.plan (state_of (played x)) in step_noted o c (it_came o c steps.outcome)
+
+pub hart_text : (x : Inside) (h : ℕ) (p : Parts) (c : Outcome) → HartCame x h p c → has_text c.note ≡ true
+hart_text x h p c steps =
+    let s = state_of (played x) in
+    let d = it_came (hart_step h x.plan s) c steps.outcome in
+    ap (λ (o : Outcome). has_text o.note) d.told ∙ hart_has_text h x.plan s d.made d.is
+
+-- where there is none all stays
+pub hart_still : (x : Inside) (h : ℕ) (p : Parts) → HartStays x h p → played x ≡ after_hart h (played x)
+hart_still x h p steps =
+    let o = hart_step h x.plan (state_of (played x)) in
+    sym (ap (after_hart_step h (played x)) (not_made o steps.outcome))
+
 -- ---- A reporter's step ----
 
 abbrev ActCame : Inside → ℕ → Act → Parts → Outcome → Type 0
 ActCame x r a p c =
     Steps x.plan (state_of (played x)) (reporter_step r x.plan (Some a) (state_of (played x))) p (Some c)
 
-pub act_fits : (x : Inside) (r : ℕ) (a : Act) (p : Parts) (c : Outcome) → IsBoard x → ActCame x r a p c
+-- what came of a step that was made, and of none
+abbrev ActCalled : Inside → ℕ → Act → Parts → Bool → Outcome → Type 0
+ActCalled x r a p q c =
+    (plan : Plan) (s : BoardState) → Shows plan s x.parts → AreEarly s
+    → Steps plan s (reporter_step r plan (Some a) s) p (came q c)
+
+abbrev ActStays : Inside → ℕ → Act → Parts → Type 0
+ActStays x r a p =
+    Steps x.plan (state_of (played x)) (reporter_step r x.plan (Some a) (state_of (played x))) p None
+
+pub act_came : (x : Inside) (r : ℕ) (a : Act) (p : Parts) (q : Bool) (c : Outcome) → IsBrief x
+    → ActCalled x r a p q c → q ≡ true → ActCame x r a p c
+act_came x r a p q c board called is =
+    let s = state_of (played x) in
+    subst (λ b. Steps x.plan s (reporter_step r x.plan (Some a) s) p (came b c)) is
+    (called x.plan s board.shows board.keeps.reached.early)
+
+pub act_stays : (x : Inside) (r : ℕ) (a : Act) (p : Parts) (q : Bool) (c : Outcome) → IsBrief x
+    → ActCalled x r a p q c → q ≡ false → ActStays x r a p
+act_stays x r a p q c board called is =
+    let s = state_of (played x) in
+    subst (λ b. Steps x.plan s (reporter_step r x.plan (Some a) s) p (came b c)) is
+    (called x.plan s board.shows board.keeps.reached.early)
+
+pub act_fits : (x : Inside) (r : ℕ) (a : Act) (p : Parts) (c : Outcome) → IsBrief x → ActCame x r a p c
     → HasPlace x.log
 act_fits x r a p c board steps =
     let s = state_of (played x) in
-    let d = came (reporter_step r x.plan (Some a) s) c steps.outcome in
+    let d = it_came (reporter_step r x.plan (Some a) s) c steps.outcome in
     one_more_fits x d.made board (reporter_makes r x.plan s (Some a) d.made d.is).number
     (reached_reporter r x.plan s (Some a) d.made board.keeps.reached d.is)
 
@@ -265,16 +328,16 @@ acts_are x r k low read =
     ∙ ap (option_map (λ (j : Kept Act). j.items.items))
     (slice_get_read x.acts.items (length x.acts.items) r k refl low read))
 
-acts_many : (x : Inside) → IsBoard x → length x.acts.items ≡ length x.plan.reporters
+acts_many : (x : Inside) → IsBrief x → length x.acts.items ≡ length x.plan.reporters
 acts_many x board =
     sym (length-map x.acts.items (λ (j : Kept Act). j.items.items)) ∙ board.keeps.played.reporters
 
 pub act_has_place : (x : Inside) (r : ℕ) (a : Act) (p : Parts) (c : Outcome) (k : Kept Act)
-    → r < length x.plan.reporters → IsBoard x → ActCame x r a p c → k ≡ get_or x.acts.items r k
+    → r < length x.plan.reporters → IsBrief x → ActCame x r a p c → k ≡ get_or x.acts.items r k
     → length k.items.items < k.room
 act_has_place x r a p c k low board steps read =
     let s = state_of (played x) in
-    let d = came (reporter_step r x.plan (Some a) s) c steps.outcome in
+    let d = it_came (reporter_step r x.plan (Some a) s) c steps.outcome in
     let makes = reporter_makes r x.plan s (Some a) d.made d.is in
     let there : r < length x.acts.items = omega (arith, low, acts_many x board) in
     let room : Some k.room ≡ Some makes.decl.limit =
@@ -311,28 +374,27 @@ rooms_same x y r a acted =
     ∙ map-set_same (λ (j : Kept Act). j.room) x.acts.items r acted.new acted.old
     (acted.room ∙ ap (λ (j : Kept Act). j.room) acted.read)
 
-pub act_is : (x y : Inside) (r : ℕ) (a : Act) (c : Outcome) → r < length x.plan.reporters → IsBoard x
+pub act_is : (x y : Inside) (r : ℕ) (a : Act) (c : Outcome) → r < length x.plan.reporters → IsBrief x
     → y.plan ≡ x.plan → IsActed x y r a → IsLogged x.log y.log (Reporter r) c
     → played y ≡ with_step (Reporter r) (with_act r a (played x))
 act_is x y r a c low board plan acted logged =
     let acts = acted_is x y r a (omega (arith, low, acts_many x board)) acted in
     λ i. record { plan = plan i; acts = acts i; steps = logged.steps i }
 
-pub act_board : (x y : Inside) (r : ℕ) (a : Act) (c : Outcome) → r < length x.plan.reporters → IsBoard x
+pub act_brief : (x y : Inside) (r : ℕ) (a : Act) (c : Outcome) → r < length x.plan.reporters → IsBrief x
     → y.plan ≡ x.plan → y.parts.firmware.events.harts ≡ x.parts.firmware.events.harts → ActCame x r a y.parts c
     → (is_list x.plan r ≡ true → Some a ≡ listed (played x) r) → IsReport (Some a) → IsActed x y r a
-    → IsLogged x.log y.log (Reporter r) c → HasCounted x.tally y.tally c.note → IsBoard y
-act_board x y r a c low board plan harts steps handed report acted logged counts =
+    → IsLogged x.log y.log (Reporter r) c → HasCounted x.tally y.tally c.note → IsBrief y
+act_brief x y r a c low board plan harts steps handed report acted logged counts =
     let s = state_of (played x) in
-    let d = came (reporter_step r x.plan (Some a) s) c steps.outcome in
+    let d = it_came (reporter_step r x.plan (Some a) s) c steps.outcome in
     let b = with_step (Reporter r) (with_act r a (played x)) in
     let keeps = board.keeps in
     let there : r < length (played x).acts = omega (arith, low, keeps.played.reporters) in
     let goes = reporter_goes_on r a (played x) d.made there keeps.played.all_made (keeps.played.used r) d.is in
-    on_board x y b board plan harts (act_is x y r a c low board plan acted logged)
+    on_brief x y b board plan harts (act_is x y r a c low board plan acted logged)
     (keeps_as x.log y.log b (Reporter r) c d.made d.told logged
-    (keeps_reporter r a (played x) d.made x.log.notes.items.items x.log.published.items.items low keeps handed report
-    d.is))
+    (keeps_reporter r a (played x) d.made x.log.published.items.items low keeps handed report d.is))
     (subst (λ (q : Ran). Shows x.plan q.state y.parts) (sym goes)
     (shows_made x.plan s (reporter_step r x.plan (Some a) s) y.parts c d.made d.is steps))
     (subst (λ (q : Ran). Tallies x.plan q.notes y.tally) (sym goes)
@@ -343,23 +405,38 @@ act_board x y r a c low board plan harts steps handed report acted logged counts
 pub act_next : (x y : Inside) (r : ℕ) (a : Act) (c : Outcome) → ActCame x r a y.parts c
     → played y ≡ with_step (Reporter r) (with_act r a (played x)) → played y ≡ after_reporter r (Some a) (played x)
 act_next x y r a c steps is =
-    let d = came (reporter_step r x.plan (Some a) (state_of (played x))) c steps.outcome in
+    let d = it_came (reporter_step r x.plan (Some a) (state_of (played x))) c steps.outcome in
     is ∙ sym (ap (after_act r (played x) (Some a)) d.is)
 
 pub act_note : (x : Inside) (r : ℕ) (a : Act) (p : Parts) (c : Outcome) → ActCame x r a p c
     → c.note ≡ note_of (reporter_step r x.plan (Some a) (state_of (played x)))
 act_note x r a p c steps =
-    let d = came (reporter_step r x.plan (Some a) (state_of (played x))) c steps.outcome in
-    ap (λ (o : Outcome). o.note) d.told ∙ sym (ap note_of d.is)
+    let o = reporter_step r x.plan (Some a) (state_of (played x)) in step_noted o c (it_came o c steps.outcome)
+
+pub act_text : (x : Inside) (r : ℕ) (a : Act) (p : Parts) (c : Outcome) → ActCame x r a p c → has_text c.note ≡ true
+act_text x r a p c steps =
+    let s = state_of (played x) in
+    let d = it_came (reporter_step r x.plan (Some a) s) c steps.outcome in
+    ap (λ (o : Outcome). has_text o.note) d.told ∙ reporter_has_text r x.plan (Some a) s d.made d.is
+
+-- where there is none all stays
+pub act_still : (x : Inside) (r : ℕ) (a : Act) (p : Parts) → ActStays x r a p
+    → played x ≡ after_reporter r (Some a) (played x)
+act_still x r a p steps =
+    let o = reporter_step r x.plan (Some a) (state_of (played x)) in
+    sym (ap (after_act r (played x) (Some a)) (not_made o steps.outcome))
 
 pub no_act_idle : (r : ℕ) (plan : Plan) (s : BoardState) (a : Option Act) → a ≡ None
     → note.Idle ≡ note_of (reporter_step r plan a s)
 unfolding reporter_step
 no_act_idle r plan s a is = sym (ap (λ b. note_of (reporter_step r plan b s)) is)
 
+pub no_act_still : (r : ℕ) (b : Played) (a : Option Act) → a ≡ None → b ≡ after_reporter r a b
+no_act_still r b a is = sym (ap (λ o. after_reporter r o b) is)
+
 -- ---- Looks ----
 
-pub bank_stands : (x : Inside) (now : Played) (bank : ℕ) (b : BankParts) → played x ≡ now → IsBoard x
+pub bank_stands : (x : Inside) (now : Played) (bank : ℕ) (b : BankParts) → played x ≡ now → IsBrief x
     → slice_get x.parts.banks.items bank ≡ Some b → (d : BankDecl) (s : BankState)
     → slice_get now.plan.banks bank ≡ Some d → slice_get (state_of now).banks bank ≡ Some s
     → StandsFor (bank_plan bank d now.plan.recs) s b

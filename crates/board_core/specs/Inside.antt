@@ -1,11 +1,11 @@
--- What a board keeps, and when it keeps it rightly (describes code). This project's own.
+-- What a board that keeps no notes keeps, and when it keeps it rightly (describes code). This project's own.
 use Rattle.std.specs.Prelude.{◌≡◌, ℕ, List, map}
 use Rattle.ras_device.specs.declared.act.Act.{Act}
 use Rattle.board_plan.specs.Plans.{most_steps}
 use Rattle.board_fates.specs.Tallied.{Tallies}
 use Rattle.board_parts.specs.Shows.{Shows, limits}
 use Rattle.board_core.specs.declared.kept.Kept.{Kept}
-use Rattle.board_core.specs.declared.board.Board.TheInside.{Inside}
+use Rattle.board_core.specs.declared.brief.Brief.TheInside.{Inside}
 use Rattle.board_core.specs.Played.{Played, own_run, state_of}
 use Rattle.board_core.specs.Reached.{Keeps}
 use Rattle.board_core.specs.Rooms.{HasRoom}
@@ -23,8 +23,8 @@ played b = record { plan = b.plan; acts = acts_in b.acts.items; steps = b.log.st
 
 -- the board keeps its run, its parts are those of the run's state, its tally is that of the run's notes, and there is
 -- room for all steps of its plan
-pub record IsBoard (b : Inside) : Type 0 where
-  pub keeps : Keeps (played b) b.log.notes.items.items b.log.published.items.items
+pub record IsBrief (b : Inside) : Type 0 where
+  pub keeps : Keeps (played b) b.log.published.items.items
   pub shows : Shows b.plan (state_of (played b)) b.parts
   pub tallies : Tallies b.plan (own_run (played b)).notes b.tally
   pub harts : b.parts.firmware.events.harts ≡ b.plan.harts

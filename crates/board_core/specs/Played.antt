@@ -44,6 +44,11 @@ abbrev pub note_of : Option Stepped → StepNote
 note_of None = note.Idle
 note_of (Some d) = d.note
 
+-- the note of a step where it was made, else `Idle`
+abbrev pub note_if : Bool → StepNote → StepNote
+note_if false n = note.Idle
+note_if true n = n
+
 abbrev pub with_step : Step → Played → Played
 with_step t b = record b { steps = b.steps ++ t ∷ [] }
 

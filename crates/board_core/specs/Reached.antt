@@ -2,7 +2,6 @@
 -- project's own, over the runs of the board book.
 use Rattle.std.specs.Prelude.{◌≡◌, ◌≤◌, ◌+◌, ℕ, List, [], ◌∷◌, length, map, sum_by}
 use Rattle.board_plan.specs.declared.notes.Published.{Published}
-use Rattle.board_plan.specs.declared.notes.StepNote.{StepNote}
 use Rattle.board_plan.specs.declared.plan.Plan.{Plan}
 use Rattle.board_plan.specs.State.{BoardState}
 use Rattle.board_parts.specs.Shows.{AreEarly, budgets, limits}
@@ -29,12 +28,11 @@ pub record IsReached (plan : Plan) (s : BoardState) : Type 0 where
   pub within_limits : AreWithin (made s) (limits plan)
   pub total : s.steps ≡ sum_by (λ c. c.steps) s.counts + sum_by (λ r. r.made) s.reporters
 
--- a board keeps its run: the notes and the copies are those of the run
-pub record Keeps (b : Played) (notes : List StepNote) (published : List Published) : Type 0 where
+-- a board keeps its run: the copies are those of the run
+pub record Keeps (b : Played) (published : List Published) : Type 0 where
   pub played : IsPlayed b
   pub reached : IsReached b.plan (state_of b)
   pub many : (state_of b).steps ≡ length b.steps
-  pub notes_are : notes ≡ map (λ n. n.note) (own_run b).notes
   pub published_are : published ≡ (own_run b).published
   pub few_published : length published ≤ length b.steps
   pub lists_reports : AreListsReports b.plan

@@ -1,6 +1,6 @@
-//! What a board has kept, and what stands on it.
+//! What a board that keeps no notes has kept, and what stands on it.
 
-ghost use Rattle.std.specs.Prelude.{◌≡◌, ◌<◌, Some, length, map, option_map, slice_get};
+ghost use Rattle.std.specs.Prelude.{◌≡◌, ◌<◌, Some, length, option_map, slice_get};
 ghost use Rattle.reri_fields.specs.Banks.{BankStands};
 ghost use Rattle.reri_fields.specs.Drain.{BankState};
 ghost use Rattle.board_plan.specs.declared.plan.BankDecl.{BankDecl};
@@ -10,15 +10,15 @@ ghost use Rattle.board_plan.specs.Fates.{fates_of};
 ghost use Rattle.board_parts.specs.Shows.{Shows};
 ghost use Rattle.board_core.specs.Played.{IsPlayed, IsSafe, own_run, state_of};
 
-use crate::board::Board;
+use crate::brief::Brief;
 use board_parts::Parts;
-use board_plan::{Counts, Fates, Plan, Published, Step, StepNote};
+use board_plan::{Counts, Fates, Plan, Published, Step};
 use ghes_block::Slot;
 use reri_bank::Bank;
 use reri_fields::Phase;
 use sbi_sse::Firmware;
 
-impl Board {
+impl Brief {
     // ---- What was played ----
 
     /// The plan.
@@ -35,13 +35,6 @@ impl Board {
         ensures safe { IsSafe self.now }
     {
         self.log.steps.items.as_slice()
-    }
-
-    /// What each step did, in the order of the steps.
-    pub fn notes(&self) -> &[StepNote]
-        ensures { result.now ≡ map (λ n. n.note) (own_run self.now).notes }
-    {
-        self.log.notes.items.as_slice()
     }
 
     /// The copies that were published, the oldest first.

@@ -1,11 +1,11 @@
-//! How a board is made of its plan.
+//! How a board that keeps no notes is made of its plan.
 
 ghost use Rattle.std.specs.Prelude.{◌≡◌, ◌≤◌, [], IfOk, map, sum_by};
 ghost use Rattle.board_plan.specs.Plans.{IsPlan, most_steps};
 ghost use Rattle.board_core.specs.Inside.{acts_in, rooms_in};
 ghost use Rattle.board_core.specs.Played.{AreListsReports, IsSafe, fresh};
 
-use crate::board::Board;
+use crate::brief::Brief;
 use crate::kept::Kept;
 use crate::log::Log;
 use board_fates::Tally;
@@ -59,10 +59,10 @@ fn no_acts(alloc: Global, reporters: &[Reporter]) -> Result<Vec<Kept<Act>>, NoMe
     Ok(acts.into_vec())
 }
 
-impl Board {
+impl Brief {
     /// A board of a plan before its first step. It takes all memory that its steps need. `NoMemory` comes only where no
     /// room was found for it.
-    pub fn new(alloc: Global, plan: &Plan) -> Result<Board, NoMemory>
+    pub fn new(alloc: Global, plan: &Plan) -> Result<Brief, NoMemory>
         requires plan { IsPlan plan.now }
         requires reports { AreListsReports plan.now }
         ensures fresh { IfOk result (λ b. b ≡ fresh plan.now) }
@@ -72,7 +72,7 @@ impl Board {
         let acts = no_acts(alloc, plan.reporters.as_slice())?;
         let log = Log::new(alloc, most_steps(plan))?;
         let plan = plan.copy(alloc)?;
-        Ok(Board {
+        Ok(Brief {
             plan,
             parts,
             acts,

@@ -1,13 +1,13 @@
-//! What a board says of its reporters.
+//! What a board that keeps no notes says of its reporters.
 
 ghost use Rattle.std.specs.Prelude.{◌≡◌, ◌<◌, length};
 ghost use Rattle.board_plan.specs.Step.{wants};
 ghost use Rattle.board_core.specs.Played.{IsReport, acts_of, is_list, listed, state_of};
 
-use crate::board::Board;
+use crate::brief::Brief;
 use ras_device::Act;
 
-impl Board {
+impl Brief {
     /// Whether a reporter is wanted: the board has it, it is plugged and has made fewer acts than its limit.
     pub fn wants(&self, reporter: u8) -> bool
         ensures { result ≡ wants self.now.plan reporter (state_of self.now) }

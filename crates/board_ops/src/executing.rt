@@ -44,158 +44,163 @@ pub fn pass(firmware: &mut Firmware, hart: u8)
 
 /// A register takes a value.
 #[tactic(auto, using(crate::proofs::Levels::register_set))]
-fn set(firmware: &mut Firmware, hart: u8, reg: Reg, value: u64) -> StepNote
+fn set(firmware: &mut Firmware, hart: u8, reg: Reg, value: u64, note: &mut StepNote)
     requires { hart < firmware.old.events.harts }
-    ensures { Executes hart firmware.old firmware.new result (set reg value (reach hart firmware.old)) }
+    ensures { Executes hart firmware.old firmware.new note.new (set reg value (reach hart firmware.old)) }
 {
     let regs = with_register(*firmware.regs(hart), reg, value);
     firmware.set_regs(hart, &regs);
-    StepNote::Set { reg, value }
+    *note = StepNote::Set { reg, value };
 }
 
 /// A register takes a word of memory.
 #[tactic(auto, using(crate::proofs::Levels::loaded))]
-fn load(firmware: &mut Firmware, hart: u8, reg: Reg, addr: u64) -> StepNote
+fn load(firmware: &mut Firmware, hart: u8, reg: Reg, addr: u64, note: &mut StepNote)
     requires { hart < firmware.old.events.harts }
-    ensures { Executes hart firmware.old firmware.new result
+    ensures { Executes hart firmware.old firmware.new note.new
         (loaded reg (reach hart firmware.old) (load firmware.old.memory addr)) }
 {
     let Some(word) = firmware.memory().load(addr) else {
-        return StepNote::Fault;
+        *note = StepNote::Fault;
+        return;
     };
     let regs = with_register(*firmware.regs(hart), reg, word);
     firmware.set_regs(hart, &regs);
-    StepNote::Load {
+    *note = StepNote::Load {
         reg,
         value: read(&regs, reg),
-    }
+    };
 }
 
 /// A word of memory takes a register.
 #[tactic(auto, using(crate::proofs::Levels::register_read, crate::proofs::Levels::stays))]
-fn save(firmware: &mut Firmware, hart: u8, reg: Reg, addr: u64) -> StepNote
+fn save(firmware: &mut Firmware, hart: u8, reg: Reg, addr: u64, note: &mut StepNote)
     requires { hart < firmware.old.events.harts }
-    ensures { Executes hart firmware.old firmware.new result (save reg addr (reach hart firmware.old)) }
+    ensures { Executes hart firmware.old firmware.new note.new (save reg addr (reach hart firmware.old)) }
 {
     let value = read(firmware.regs(hart), reg);
     match firmware.store(addr, value) {
-        Some(()) => StepNote::Save { addr, value },
-        None => StepNote::Fault,
+        Some(()) => *note = StepNote::Save { addr, value },
+        None => *note = StepNote::Fault,
     }
 }
 
 /// A word of memory takes a value.
 #[tactic(auto, using(crate::proofs::Levels::stays))]
-fn store(firmware: &mut Firmware, hart: u8, addr: u64, value: u64) -> StepNote
+fn store(firmware: &mut Firmware, hart: u8, addr: u64, value: u64, note: &mut StepNote)
     requires { hart < firmware.old.events.harts }
-    ensures { Executes hart firmware.old firmware.new result (store_word addr value (reach hart firmware.old)) }
+    ensures { Executes hart firmware.old firmware.new note.new (store_word addr value (reach hart firmware.old)) }
 {
     match firmware.store(addr, value) {
-        Some(()) => StepNote::Store { addr, value },
-        None => StepNote::Fault,
+        Some(()) => *note = StepNote::Store { addr, value },
+        None => *note = StepNote::Fault,
     }
 }
 
 /// A word of memory rises by one, modulo 2^64.
 #[tactic(auto, using(crate::proofs::Levels::stays))]
-fn inc(firmware: &mut Firmware, hart: u8, addr: u64) -> StepNote
+fn inc(firmware: &mut Firmware, hart: u8, addr: u64, note: &mut StepNote)
     requires { hart < firmware.old.events.harts }
-    ensures { Executes hart firmware.old firmware.new result
+    ensures { Executes hart firmware.old firmware.new note.new
         (risen addr (reach hart firmware.old) (load firmware.old.memory addr)) }
 {
     let Some(word) = firmware.memory().load(addr) else {
-        return StepNote::Fault;
+        *note = StepNote::Fault;
+        return;
     };
     let value = word.wrapping_add(1);
     match firmware.store(addr, value) {
-        Some(()) => StepNote::Inc { addr, value },
-        None => StepNote::Fault,
+        Some(()) => *note = StepNote::Inc { addr, value },
+        None => *note = StepNote::Fault,
     }
 }
 
 /// The hart goes on elsewhere where a word of memory is below a value.
 #[tactic(auto, using(crate::proofs::Levels::stays))]
-fn jlt(firmware: &mut Firmware, hart: u8, addr: u64, value: u64, pc: u64) -> StepNote
+fn jlt(firmware: &mut Firmware, hart: u8, addr: u64, value: u64, pc: u64, note: &mut StepNote)
     requires { hart < firmware.old.events.harts }
-    ensures { Executes hart firmware.old firmware.new result
+    ensures { Executes hart firmware.old firmware.new note.new
         (jumped value pc (reach hart firmware.old) (load firmware.old.memory addr)) }
 {
     let Some(word) = firmware.memory().load(addr) else {
-        return StepNote::Fault;
+        *note = StepNote::Fault;
+        return;
     };
     if word >= value {
-        return StepNote::Jlt { taken: false };
+        *note = StepNote::Jlt { taken: false };
+        return;
     }
     firmware.set_pc(hart, pc);
-    StepNote::Jlt { taken: true }
+    *note = StepNote::Jlt { taken: true };
 }
 
 /// The hart returns to what sepc, spp and spie say.
 #[tactic(auto, using(crate::proofs::Levels::return_made))]
-fn sret(firmware: &mut Firmware, hart: u8) -> StepNote
+fn sret(firmware: &mut Firmware, hart: u8, note: &mut StepNote)
     requires { hart < firmware.old.events.harts }
-    ensures { Executes hart firmware.old firmware.new result (sret (reach hart firmware.old)) }
+    ensures { Executes hart firmware.old firmware.new note.new (sret (reach hart firmware.old)) }
 {
     let regs = returned(*firmware.regs(hart));
     firmware.set_regs(hart, &regs);
-    StepNote::Sret
+    *note = StepNote::Sret;
 }
 
 /// A call of the firmware.
-fn sbi(firmware: &mut Firmware, hart: u8, eid: u64, fid: u64, args: [u64; 5]) -> StepNote
+fn sbi(firmware: &mut Firmware, hart: u8, eid: u64, fid: u64, args: [u64; 5], note: &mut StepNote)
     requires { hart < firmware.old.events.harts }
-    ensures { Executes hart firmware.old firmware.new result
+    ensures { Executes hart firmware.old firmware.new note.new
         (sbi hart eid fid args firmware.old.stacks (reach hart firmware.old)) }
 {
     let CallNote { reply, written } = firmware.call(hart, eid, fid, args);
-    StepNote::Call {
+    *note = StepNote::Call {
         eid,
         fid,
         args,
         code: reply.error,
         written,
-    }
+    };
 }
 
-/// Executes an op of a hart that is past it already, and says what it did. `ack` and `unplug` reach further than the
+/// Executes an op of a hart that is past it already, and notes what it did. `ack` and `unplug` reach further than the
 /// hart and memory: they do nothing here.
 #[tactic(auto, using(crate::proofs::Levels::stays))]
-fn execute(firmware: &mut Firmware, hart: u8, op: Op) -> StepNote
+fn execute(firmware: &mut Firmware, hart: u8, op: &Op, note: &mut StepNote)
     requires { hart < firmware.old.events.harts }
-    ensures { Executes hart firmware.old firmware.new result
-        (own_done hart firmware.old.stacks (reach hart firmware.old) op) }
+    ensures { Executes hart firmware.old firmware.new note.new
+        (own_done hart firmware.old.stacks (reach hart firmware.old) op.now) }
 {
-    match op {
-        Op::Nop | Op::Ack { .. } | Op::Unplug { .. } => StepNote::Nop,
-        Op::Sbi { eid, fid, args } => sbi(firmware, hart, eid, fid, args),
-        Op::Set { reg, value } => set(firmware, hart, reg, value),
-        Op::Load { reg, addr } => load(firmware, hart, reg, addr),
-        Op::Save { reg, addr } => save(firmware, hart, reg, addr),
-        Op::Store { addr, value } => store(firmware, hart, addr, value),
-        Op::Inc { addr } => inc(firmware, hart, addr),
+    match *op {
+        Op::Nop | Op::Ack { .. } | Op::Unplug { .. } => *note = StepNote::Nop,
+        Op::Sbi { eid, fid, args } => sbi(firmware, hart, eid, fid, args, note),
+        Op::Set { reg, value } => set(firmware, hart, reg, value, note),
+        Op::Load { reg, addr } => load(firmware, hart, reg, addr, note),
+        Op::Save { reg, addr } => save(firmware, hart, reg, addr, note),
+        Op::Store { addr, value } => store(firmware, hart, addr, value, note),
+        Op::Inc { addr } => inc(firmware, hart, addr, note),
         Op::Jump { pc } => {
             firmware.set_pc(hart, pc);
-            StepNote::Jump { pc }
+            *note = StepNote::Jump { pc };
         }
-        Op::Jlt { addr, value, pc } => jlt(firmware, hart, addr, value, pc),
-        Op::Sret => sret(firmware, hart),
+        Op::Jlt { addr, value, pc } => jlt(firmware, hart, addr, value, pc, note),
+        Op::Sret => sret(firmware, hart, note),
     }
 }
 
-/// Makes the step of an op that stands at a hart's pc, and says what it did: the hart goes past the
+/// Makes the step of an op that stands at a hart's pc, and notes what it did: the hart goes past the
 /// op, and executes it where its mode allows it; else the note is `Illegal`. `ack` and `unplug`
 /// reach further than their hart and memory: where they are allowed they do nothing here, and the
 /// note is `Nop`.
-pub fn step(firmware: &mut Firmware, hart: u8, op: Op) -> StepNote
+pub fn step(firmware: &mut Firmware, hart: u8, op: &Op, note: &mut StepNote)
     requires { hart < firmware.old.events.harts }
-    ensures { Executes hart firmware.old firmware.new result
-        (own_step hart firmware.old.stacks (reach hart firmware.old) op) }
+    ensures { Executes hart firmware.old firmware.new note.new
+        (own_step hart firmware.old.stacks (reach hart firmware.old) op.now) }
 {
     let _harts = firmware.harts();
-    let illegal = is_illegal(firmware, hart, &op);
+    let illegal = is_illegal(firmware, hart, op);
     pass(firmware, hart);
     if illegal {
-        return StepNote::Illegal;
+        *note = StepNote::Illegal;
+        return;
     }
-    execute(firmware, hart, op)
+    execute(firmware, hart, op, note);
 }

@@ -1,6 +1,7 @@
 //! Which op stands at an address.
 
 ghost use Rattle.std.specs.Prelude.{◌≡◌, ◌<◌, List, [], ◌∷◌, ◌++◌, All, OnOk, IfOk};
+ghost use Rattle.std.specs.Option.{option_copied};
 ghost use Rattle.board_plan.specs.declared.ops.Placed.{Placed};
 ghost use Rattle.board_plan.specs.Ops.{op_at};
 ghost use Rattle.board_ops.specs.Indexes.{Finds, Indexes, IsThere};
@@ -66,10 +67,10 @@ impl Tree {
     }
 
     /// The op at an address. None exactly where none stands there.
-    fn get(&self, pc: u64) -> Option<Op>
-        ensures { (ops : List Placed) → Finds ops self.now → result ≡ op_at pc ops }
+    fn get(&self, pc: u64) -> Option<&Op>
+        ensures { (ops : List Placed) → Finds ops self.now → option_copied result ≡ op_at pc ops }
     {
-        self.by_pc.get(&pc).copied()
+        self.by_pc.get(&pc)
     }
 }
 
@@ -87,7 +88,10 @@ fn found(alloc: Global, tree: &Tree, ops: &[Placed]) -> Result<Vec<Placed>, Allo
     let mut near = Vec::with_capacity(alloc, ops.len())?;
     for placed in ops {
         if let Some(op) = tree.get(placed.pc) {
-            near.push(Placed { pc: placed.pc, op })?;
+            near.push(Placed {
+                pc: placed.pc,
+                op: *op,
+            })?;
         }
     }
     Ok(near)
@@ -114,12 +118,12 @@ impl OpIndex {
     }
 
     /// The op at an address. None exactly where none stands there.
-    pub fn get(&self, pc: u64) -> Option<Op>
-        ensures { (ops : List Placed) → Indexes ops self.now → result ≡ op_at pc ops }
+    pub fn get(&self, pc: u64) -> Option<&Op>
+        ensures { (ops : List Placed) → Indexes ops self.now → option_copied result ≡ op_at pc ops }
     {
         let hint = self.hints[hint_of(pc)] as usize;
         match self.near.get(hint) {
-            Some(placed) if placed.pc == pc => Some(placed.op),
+            Some(placed) if placed.pc == pc => Some(&placed.op),
             _ => self.tree.get(pc),
         }
     }

@@ -30,7 +30,7 @@ use Rattle.board_ops.specs.Indexes.{Indexes}
 use Rattle.board_parts.specs.declared.outcome.Outcome.{Outcome}
 use Rattle.board_parts.specs.declared.parts.Parts.{Parts}
 use Rattle.board_parts.specs.Shows.{AreBanks, Shows}
-use Rattle.board_parts.specs.Came.{Takes, Acts, Steps, outcome_of, reached, was_plugged, without_plug, is_plugged, unplug_in}
+use Rattle.board_parts.specs.Came.{Takes, Acts, Steps, came as came_of, outcome_of, reached, was_plugged, without_plug, is_plugged, unplug_in}
 use Rattle.board_parts.proofs.AtBanks.{Rests}
 
 -- ---- A hart's reach ----
@@ -134,7 +134,7 @@ ack_takes plan s q h stack bank (Some e) came takes =
       shows = takes.shows;
     }
 
-pub ack_acts : (plan : Plan) (s : BoardState) (q : Parts) (h : ℕ) (stack : Stack) (bank : ℕ) (came : Option Outcome)
+ack_acts : (plan : Plan) (s : BoardState) (q : Parts) (h : ℕ) (stack : Stack) (bank : ℕ) (came : Option Outcome)
     (last : Outcome)
     → (is_user stack.live.privilege && needs_supervisor (ops.Ack bank)) ≡ false
     → Takes plan (at_past h s stack) (at_bank bank Acknowledges plan s.machine.events s.banks) q came
@@ -145,6 +145,31 @@ ack_acts plan s q h stack bank came last legal takes told =
     (Some c)) (sym told)
     (legal_acts plan s q h stack (ops.Ack bank) (Some (unwrap_or came (outcome_of (note.Ack bank None) None))) legal
     (ack_takes plan s q h stack bank (at_bank bank Acknowledges plan s.machine.events s.banks) came takes))
+
+-- where the board has the bank, and where it hasn't
+pub ack_made : (plan : Plan) (s : BoardState) (q : Parts) (h : ℕ) (stack : Stack) (bank : ℕ) (made : Bool)
+    (n : StepNote)
+    → made ≡ true → (is_user stack.live.privilege && needs_supervisor (ops.Ack bank)) ≡ false
+    → Takes plan (at_past h s stack) (at_bank bank Acknowledges plan s.machine.events s.banks) q
+    (came_of made (outcome_of n None))
+    → Acts h plan s (Some (allowed h plan s.machine.stacks (board_reach stack s) (ops.Ack bank))) q
+    (Some (outcome_of n None))
+ack_made plan s q h stack bank made n is legal takes =
+    ack_acts plan s q h stack bank (Some (outcome_of n None)) (outcome_of n None) legal
+    (subst (λ b. Takes plan (at_past h s stack) (at_bank bank Acknowledges plan s.machine.events s.banks) q
+    (came_of b (outcome_of n None))) is takes) refl
+
+pub ack_stray : (plan : Plan) (s : BoardState) (q : Parts) (h : ℕ) (stack : Stack) (bank : ℕ) (made : Bool)
+    (n : StepNote)
+    → made ≡ false → (is_user stack.live.privilege && needs_supervisor (ops.Ack bank)) ≡ false
+    → Takes plan (at_past h s stack) (at_bank bank Acknowledges plan s.machine.events s.banks) q
+    (came_of made (outcome_of n None))
+    → Acts h plan s (Some (allowed h plan s.machine.stacks (board_reach stack s) (ops.Ack bank))) q
+    (Some (outcome_of (note.Ack bank None) None))
+ack_stray plan s q h stack bank made n is legal takes =
+    ack_acts plan s q h stack bank None (outcome_of (note.Ack bank None) None) legal
+    (subst (λ b. Takes plan (at_past h s stack) (at_bank bank Acknowledges plan s.machine.events s.banks) q
+    (came_of b (outcome_of n None))) is takes) refl
 
 -- ---- `unplug` ----
 
@@ -245,7 +270,7 @@ first_drains plan s q h stack bank came there due takes =
     (drain_acts plan s q h stack (at_bank bank Drains plan s.machine.events s.banks) came there takes)
 
 -- what is chosen, where no drain is due
-chosen_acts : (plan : Plan) (s : BoardState) (p q : Parts) (h : ℕ) (stack : Stack) (came : Option Outcome)
+pub chosen_acts : (plan : Plan) (s : BoardState) (p q : Parts) (h : ℕ) (stack : Stack) (came : Option Outcome)
     (at : Option Instance)
     → Shows plan s p → slice_get s.machine.stacks h ≡ Some stack → bank_due h plan s.banks ≡ None
     → at ≡ next_for h (reach h p.firmware)
@@ -275,32 +300,29 @@ then_delivers plan s p q h stack at came shows there due chosen rests banks firm
           ∙ ap (placed h (delivered h at r.own)) shows.machine) banks;
     })
 
--- an op
-pub then_op : (plan : Plan) (s : BoardState) (p q : Parts) (h : ℕ) (stack : Stack) (op : Op) (came : Outcome) (pc : ℕ)
-    → Shows plan s p → slice_get s.machine.stacks h ≡ Some stack → bank_due h plan s.banks ≡ None
-    → None ≡ next_for h (reach h p.firmware) → pc ≡ (reach h p.firmware).stack.live.pc → Some op ≡ op_at pc plan.ops
-    → Acts h plan s (Some (allowed h plan s.machine.stacks (board_reach stack s) op)) q (Some came)
-    → Acts h plan s (own_step h plan s.machine.stacks (board_reach stack s)) q (Some came)
-then_op plan s p q h stack op came pc shows there due chosen at stands acts =
-    let r = board_reach stack s in
-    chosen_acts plan s p q h stack (Some came) None shows there due chosen
-    (subst (λ o. Acts h plan s (option_map (allowed h plan s.machine.stacks r) o) q (Some came))
+-- an op that stands at the pc
+pub op_acts : (plan : Plan) (s : BoardState) (p q : Parts) (h : ℕ) (stack : Stack) (op : Op) (came : Option Outcome)
+    (pc : ℕ)
+    → Shows plan s p → slice_get s.machine.stacks h ≡ Some stack → pc ≡ (reach h p.firmware).stack.live.pc
+    → Some op ≡ op_at pc plan.ops
+    → Acts h plan s (Some (allowed h plan s.machine.stacks (board_reach stack s) op)) q came
+    → Acts h plan s (on_chosen h plan s.machine.stacks (board_reach stack s) None) q came
+op_acts plan s p q h stack op came pc shows there at stands acts =
+    subst (λ o. Acts h plan s (option_map (allowed h plan s.machine.stacks (board_reach stack s)) o) q came)
     (stands ∙ ap (λ x. op_at x plan.ops) (at ∙ ap (λ (x : Reach). x.stack.live.pc)
     (reach_is plan s p h stack shows there)))
-    acts)
+    acts
 
 -- nothing
-pub then_nothing : (plan : Plan) (s : BoardState) (p q : Parts) (h : ℕ) (stack : Stack) (pc : ℕ)
-    → Shows plan s p → slice_get s.machine.stacks h ≡ Some stack → bank_due h plan s.banks ≡ None
-    → None ≡ next_for h (reach h p.firmware) → pc ≡ (reach h p.firmware).stack.live.pc → None ≡ op_at pc plan.ops
-    → Shows plan s q → Acts h plan s (own_step h plan s.machine.stacks (board_reach stack s)) q None
-then_nothing plan s p q h stack pc shows there due chosen at stands still =
-    let r = board_reach stack s in
-    chosen_acts plan s p q h stack None None shows there due chosen
-    (subst (λ o. Acts h plan s (option_map (allowed h plan s.machine.stacks r) o) q None)
+pub no_op : (plan : Plan) (s : BoardState) (p q : Parts) (h : ℕ) (stack : Stack) (pc : ℕ)
+    → Shows plan s p → slice_get s.machine.stacks h ≡ Some stack → pc ≡ (reach h p.firmware).stack.live.pc
+    → None ≡ op_at pc plan.ops → Shows plan s q
+    → Acts h plan s (on_chosen h plan s.machine.stacks (board_reach stack s) None) q None
+no_op plan s p q h stack pc shows there at stands still =
+    subst (λ o. Acts h plan s (option_map (allowed h plan s.machine.stacks (board_reach stack s)) o) q None)
     (stands ∙ ap (λ x. op_at x plan.ops) (at ∙ ap (λ (x : Reach). x.stack.live.pc)
     (reach_is plan s p h stack shows there)))
-    (record { outcome = refl; shows = still }))
+    (record { outcome = refl; shows = still })
 
 -- ---- Budgets and counts ----
 

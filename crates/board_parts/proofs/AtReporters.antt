@@ -1,5 +1,5 @@
 -- What the parts of a reporter's step make of the board.
-use Rattle.std.proofs.Common.{◌≡◌, ℕ, suc, ◌<◌, ◌≤◌, ◌&&◌, nat_lt, true, false, List, length, get_or, set, slice_get, Option, Some, None, refl, sym, ap, ◌∙◌, subst, arith}
+use Rattle.std.proofs.Common.{◌≡◌, ℕ, suc, ◌<◌, ◌≤◌, ◌&&◌, nat_lt, Bool, true, false, List, length, get_or, set, slice_get, Option, Some, None, refl, sym, ap, ◌∙◌, subst, arith}
 use Rattle.std.specs.Option.{option_map}
 use Rattle.std.specs.Prelude.{unwrap_or}
 use Rattle.std.proofs.lemmas.Bool.{cond-true, cond-false}
@@ -9,6 +9,7 @@ use Rattle.reri_fields.specs.declared.report.Report.{Report}
 use Rattle.reri_fields.specs.Drain.BankTry.{Reports}
 use Rattle.reri_bank.proofs.Stands.{get_there}
 use Rattle.ras_device.specs.declared.act.Act.{Act}
+use Rattle.board_plan.specs.declared.notes.StepNote.{StepNote}
 use Rattle.board_plan.specs.declared.notes.StepNote.TheVariants as note
 use Rattle.board_plan.specs.declared.plan.Reporter as plan_reporter
 use Rattle.board_plan.specs.declared.plan.Plan.{Plan}
@@ -18,7 +19,7 @@ use Rattle.board_ops.specs.Indexes.{Indexes}
 use Rattle.board_parts.specs.declared.outcome.Outcome.{Outcome}
 use Rattle.board_parts.specs.declared.parts.Parts.{Parts}
 use Rattle.board_parts.specs.Shows.{AreBanks, Shows}
-use Rattle.board_parts.specs.Came.{Takes, Steps, outcome_of, with_act_counted, with_effect_on}
+use Rattle.board_parts.specs.Came.{Takes, Steps, came as came_of, outcome_of, with_act_counted, with_effect_on}
 
 -- ---- An error ----
 
@@ -45,7 +46,7 @@ error_of plan s q report (Some e) came takes =
       shows = takes.shows;
     }
 
-pub error_takes : (plan : Plan) (s : BoardState) (q : Parts) (report : Report) (came : Option Outcome) (last : Outcome)
+error_takes : (plan : Plan) (s : BoardState) (q : Parts) (report : Report) (came : Option Outcome) (last : Outcome)
     → Takes plan s (at_bank report.bank (Reports (record { step = suc s.steps; report = report })) plan
     s.machine.events s.banks) q came
     → last ≡ unwrap_or came (outcome_of (note.Error report None) None)
@@ -54,6 +55,26 @@ error_takes plan s q report came last takes told =
     subst (λ c. Takes plan s (Some (on_error plan report s)) q (Some c)) (sym told)
     (error_of plan s q report (at_bank report.bank (Reports (record { step = suc s.steps; report = report })) plan
     s.machine.events s.banks) came takes)
+
+-- where the board has the bank, and where it hasn't
+pub error_made : (plan : Plan) (s : BoardState) (q : Parts) (report : Report) (made : Bool) (n : StepNote) → made ≡ true
+    → Takes plan s (at_bank report.bank (Reports (record { step = suc s.steps; report = report })) plan
+    s.machine.events s.banks) q (came_of made (outcome_of n None))
+    → Takes plan s (Some (on_error plan report s)) q (Some (outcome_of n None))
+error_made plan s q report made n is takes =
+    error_takes plan s q report (Some (outcome_of n None)) (outcome_of n None)
+    (subst (λ b. Takes plan s (at_bank report.bank (Reports (record { step = suc s.steps; report = report })) plan
+    s.machine.events s.banks) q (came_of b (outcome_of n None))) is takes) refl
+
+pub error_stray : (plan : Plan) (s : BoardState) (q : Parts) (report : Report) (made : Bool) (n : StepNote)
+    → made ≡ false
+    → Takes plan s (at_bank report.bank (Reports (record { step = suc s.steps; report = report })) plan
+    s.machine.events s.banks) q (came_of made (outcome_of n None))
+    → Takes plan s (Some (on_error plan report s)) q (Some (outcome_of (note.Error report None) None))
+error_stray plan s q report made n is takes =
+    error_takes plan s q report None (outcome_of (note.Error report None) None)
+    (subst (λ b. Takes plan s (at_bank report.bank (Reports (record { step = suc s.steps; report = report })) plan
+    s.machine.events s.banks) q (came_of b (outcome_of n None))) is takes) refl
 
 -- ---- Whether a reporter is wanted ----
 

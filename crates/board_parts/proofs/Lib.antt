@@ -1,5 +1,6 @@
 pub mod AtBanks
 pub mod AtHarts
 pub mod AtReporters
+pub mod Homeless
 pub mod MadeOf
 pub mod Searching

@@ -79,3 +79,10 @@ with_act_counted r s true = record s { reporters = with_one_more r s.reporters (
 -- an error that is reported has a priority below 4
 abbrev pub IsReport : Option Act → Type 0
 IsReport a = (report : Report) → a ≡ Some (act.Error report) → report.priority < 4
+
+-- ---- What came of a step ----
+
+-- what came of a step: where it was made, its outcome
+abbrev pub came : Bool → Outcome → Option Outcome
+came false o = None
+came true o = Some o

@@ -1,16 +1,17 @@
 //! The steps of banks.
 
-ghost use Rattle.std.specs.Prelude.{◌≡◌, ◌<◌, length, ℕ, slice_get, Some, None, IfSome, unwrap_or, option_map};
+ghost use Rattle.std.specs.Prelude.{◌≡◌, ◌<◌, ◌+◌, length, ℕ, slice_get, Some, None, IfSome};
 ghost use Rattle.reri_fields.specs.Drain.{BankState};
 ghost use Rattle.reri_fields.specs.Drain.BankTry.{Reports, Drains, Acknowledges};
 ghost use Rattle.reri_fields.specs.Banks.{AllLogsBefore};
 ghost use Rattle.board_plan.specs.declared.plan.Plan.{Plan};
 ghost use Rattle.board_plan.specs.State.{BoardState};
-ghost use Rattle.board_plan.specs.Step.{at_bank, bank_due, first_bank, is_draining, is_waiting, passes};
+ghost use Rattle.board_plan.specs.Step.{at_bank, bank_due, is_draining, is_waiting, passes};
 ghost use Rattle.board_parts.specs.Shows.{Shows};
-ghost use Rattle.board_parts.specs.Came.{Takes};
+ghost use Rattle.board_parts.specs.Came.{Takes, came, outcome_of};
+ghost use Rattle.board_parts.specs.Walked.{waits_below};
 
-use crate::outcome::{Outcome, quiet};
+use crate::outcome::Outcome;
 use crate::parts::Parts;
 use crate::signals::drawn;
 use board_plan::StepNote;
@@ -43,96 +44,99 @@ impl Parts {
         self.banks[at].may_begin()
     }
 
-    /// The first bank of a hart whose drain is under way.
-    fn draining(&self, hart: u8) -> Option<u8>
+    /// The first bank of a hart whose drain may begin among those up to this one, of which `before` is the first among
+    /// those below it.
+    fn first_waiting(&self, hart: u8, at: usize, before: Option<u8>) -> Option<u8>
+        requires here { at < length self.now.banks.items }
+        requires there { IfSome before (λ bank. bank < length self.now.banks.items) }
         ensures which { (plan : Plan) (s : BoardState) → Shows plan s self.now
-            → first_bank (is_draining hart plan) plan s.banks ≡ result }
-        ensures there { IfSome result (λ at. at < length self.now.banks.items) }
+            → waits_below hart plan s.banks at ≡ before → waits_below hart plan s.banks (at + 1) ≡ result }
+        ensures there { IfSome result (λ bank. bank < length self.now.banks.items) }
     {
-        for at in 0..self.banks.len() {
-            if self.is_draining(hart, at) {
-                return Some(at as u8);
-            }
+        if before.is_some() {
+            return before;
         }
-        None
+        if !self.is_waiting(hart, at) {
+            return None;
+        }
+        Some(at as u8)
     }
 
-    /// The first bank of a hart whose drain may begin.
-    fn waiting(&self, hart: u8) -> Option<u8>
-        ensures which { (plan : Plan) (s : BoardState) → Shows plan s self.now
-            → first_bank (is_waiting hart plan) plan s.banks ≡ result }
-        ensures there { IfSome result (λ at. at < length self.now.banks.items) }
-    {
-        for at in 0..self.banks.len() {
-            if self.is_waiting(hart, at) {
-                return Some(at as u8);
-            }
-        }
-        None
-    }
-
-    /// The bank that a hart drains next.
+    /// The bank that a hart drains next: the first whose drain is under way, else the first whose drain may begin.
     pub(crate) fn due(&self, hart: u8) -> Option<u8>
         ensures which { (plan : Plan) (s : BoardState) → Shows plan s self.now → bank_due hart plan s.banks ≡ result }
         ensures there { IfSome result (λ at. at < length self.now.banks.items) }
     {
-        match self.draining(hart) {
-            Some(bank) => Some(bank),
-            None => self.waiting(hart),
+        if !self.homes[hart as usize] {
+            return None;
         }
+        let mut waiting = None;
+        for at in 0..self.banks.len() {
+            if self.is_draining(hart, at) {
+                return Some(at as u8);
+            }
+            waiting = self.first_waiting(hart, at, waiting);
+        }
+        waiting
     }
 
     // ---- What is done at a bank ----
 
-    /// Takes the next phase of a bank's drain. None where no drain is due.
-    pub(crate) fn drain(&mut self, bank: u8) -> Option<Outcome>
+    /// Takes the next phase of a bank's drain. False where no drain is due; then nothing changes.
+    pub(crate) fn drain(&mut self, bank: u8, outcome: &mut Outcome) -> bool
         requires { bank < length self.old.banks.items }
         ensures takes { (plan : Plan) (s : BoardState) → Shows plan s self.old
-            → Takes plan s (at_bank bank Drains plan s.machine.events s.banks) self.new result }
+            → Takes plan s (at_bank bank Drains plan s.machine.events s.banks) self.new (came result outcome.new) }
         ensures harts { self.new.firmware.events.harts ≡ self.old.firmware.events.harts }
+        ensures counts { self.new.counts.items ≡ self.old.counts.items }
     {
         let at = bank as usize;
-        let decl = self.decls[at];
+        let decl = &self.decls[at];
         let Some((rec, did)) = self.banks[at].step() else {
-            return None;
+            return false;
         };
-        Some(drawn(&mut self.firmware, &decl, bank, rec, did))
+        drawn(&mut self.firmware, decl, bank, rec, &did, outcome);
+        true
     }
 
-    /// Acknowledges a bank's block. None where the board hasn't the bank.
-    pub(crate) fn acknowledge(&mut self, bank: u8) -> Option<Outcome>
+    /// Acknowledges a bank's block. False where the board hasn't the bank; then nothing changes.
+    pub(crate) fn acknowledge(&mut self, bank: u8, note: &mut StepNote) -> bool
         ensures takes { (plan : Plan) (s : BoardState) → Shows plan s self.old
-            → Takes plan s (at_bank bank Acknowledges plan s.machine.events s.banks) self.new result }
+            → Takes plan s (at_bank bank Acknowledges plan s.machine.events s.banks) self.new
+            (came result (outcome_of note.new None)) }
         ensures harts { self.new.firmware.events.harts ≡ self.old.firmware.events.harts }
+        ensures counts { self.new.counts.items ≡ self.old.counts.items }
     {
         let at = bank as usize;
         if at >= self.banks.len() {
-            return None;
+            return false;
         }
         let full = self.banks[at].acknowledge();
-        Some(quiet(StepNote::Ack {
+        *note = StepNote::Ack {
             bank,
             was: Some(full),
-        }))
+        };
+        true
     }
 
-    /// Reports an error to its bank. None where the board hasn't the bank.
-    pub(crate) fn report(&mut self, report: &Report) -> Option<Outcome>
+    /// Reports an error to its bank. False where the board hasn't the bank; then nothing changes.
+    pub(crate) fn report(&mut self, report: &Report, note: &mut StepNote) -> bool
         requires { report.now.priority < 4 }
         ensures takes { (plan : Plan) (s : BoardState) (n : ℕ) → Shows plan s self.old
             → ((i : ℕ) (x : BankState) → slice_get s.banks i ≡ Some x → AllLogsBefore n x.history)
             → Takes plan s (at_bank report.now.bank (Reports (record { step = n; report = report.now })) plan
-            s.machine.events s.banks) self.new result }
+            s.machine.events s.banks) self.new (came result (outcome_of note.new None)) }
         ensures harts { self.new.firmware.events.harts ≡ self.old.firmware.events.harts }
     {
         let at = report.bank as usize;
         if at >= self.banks.len() {
-            return None;
+            return false;
         }
         let logged = self.banks[at].report(report);
-        Some(quiet(StepNote::Error {
+        *note = StepNote::Error {
             report: *report,
             logged,
-        }))
+        };
+        true
     }
 }

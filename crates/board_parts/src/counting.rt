@@ -58,15 +58,6 @@ impl HartCounts {
         self.counts
     }
 
-    /// The same once more.
-    pub(crate) fn again(&self) -> HartCounts
-        ensures { result ≡ self.now }
-    {
-        HartCounts {
-            counts: self.counts,
-        }
-    }
-
     /// How many steps the hart has made.
     pub(crate) fn steps(&self) -> u32
         ensures { result ≡ self.now.steps }

@@ -1,35 +1,39 @@
 //! The steps of harts.
 
-ghost use Rattle.std.specs.Prelude.{◌≡◌, ◌<◌, ℕ, Some, slice_get};
+ghost use Rattle.std.specs.Prelude.{◌≡◌, ◌<◌, ℕ, Some, None, slice_get};
 ghost use Rattle.sse_base.specs.Contexts.{Stack};
 ghost use Rattle.board_plan.specs.declared.plan.Plan.{Plan};
 ghost use Rattle.board_plan.specs.State.{BoardState};
-ghost use Rattle.board_plan.specs.Step.{allowed, board_reach, hart_step, own_step};
+ghost use Rattle.board_plan.specs.Step.{allowed, board_reach, hart_step, on_chosen, own_step};
 ghost use Rattle.board_parts.specs.Shows.{Shows};
-ghost use Rattle.board_parts.specs.Came.{Acts, Steps, was_plugged, without_plug};
+ghost use Rattle.board_parts.specs.Came.{Acts, Steps, came, outcome_of, was_plugged, without_plug};
 
-use crate::outcome::{Outcome, quiet};
+use crate::outcome::Outcome;
 use crate::parts::Parts;
 use board_ops::{is_illegal, pass, step};
 use board_plan::{Op, StepNote};
 
 impl Parts {
     /// Acknowledges a bank's block, where the hart's mode allows it.
-    fn on_ack(&mut self, hart: u8, bank: u8) -> Outcome
+    fn on_ack(&mut self, hart: u8, bank: u8, note: &mut StepNote)
         requires { hart < self.old.firmware.events.harts }
         ensures acts { (plan : Plan) (s : BoardState) (stack : Stack) → Shows plan s self.old
             → slice_get s.machine.stacks hart ≡ Some stack
             → Acts hart plan s (Some (allowed hart plan s.machine.stacks (board_reach stack s)
-            (Op.Ack bank))) self.new (Some result) }
+            (Op.Ack bank))) self.new (Some (outcome_of note.new None)) }
         ensures harts { self.new.firmware.events.harts ≡ self.old.firmware.events.harts }
+        ensures counts { self.new.counts.items ≡ self.old.counts.items }
     {
         let illegal = is_illegal(&self.firmware, hart, &Op::Ack { bank });
         pass(&mut self.firmware, hart);
         if illegal {
-            return quiet(StepNote::Illegal);
+            *note = StepNote::Illegal;
+            return;
         }
-        let came = self.acknowledge(bank);
-        came.unwrap_or(quiet(StepNote::Ack { bank, was: None }))
+        if self.acknowledge(bank, note) {
+            return;
+        }
+        *note = StepNote::Ack { bank, was: None };
     }
 
     /// Unplugs a reporter, and says whether it was plugged; false where the board hasn't the reporter.
@@ -38,6 +42,7 @@ impl Parts {
             → Shows plan (without_plug reporter s) self.new }
         ensures was { (plan : Plan) (s : BoardState) → Shows plan s self.old → was_plugged reporter s ≡ result }
         ensures harts { self.new.firmware.events.harts ≡ self.old.firmware.events.harts }
+        ensures counts { self.new.counts.items ≡ self.old.counts.items }
     {
         let at = reporter as usize;
         if at >= self.reporters.len() {
@@ -47,79 +52,94 @@ impl Parts {
     }
 
     /// Unplugs a reporter, where the hart's mode allows it.
-    fn on_unplug(&mut self, hart: u8, reporter: u8) -> Outcome
+    fn on_unplug(&mut self, hart: u8, reporter: u8, note: &mut StepNote)
         requires { hart < self.old.firmware.events.harts }
         ensures acts { (plan : Plan) (s : BoardState) (stack : Stack) → Shows plan s self.old
             → slice_get s.machine.stacks hart ≡ Some stack
             → Acts hart plan s (Some (allowed hart plan s.machine.stacks (board_reach stack s)
-            (Op.Unplug reporter))) self.new (Some result) }
+            (Op.Unplug reporter))) self.new (Some (outcome_of note.new None)) }
         ensures harts { self.new.firmware.events.harts ≡ self.old.firmware.events.harts }
+        ensures counts { self.new.counts.items ≡ self.old.counts.items }
     {
         let illegal = is_illegal(&self.firmware, hart, &Op::Unplug { reporter });
         pass(&mut self.firmware, hart);
         if illegal {
-            return quiet(StepNote::Illegal);
+            *note = StepNote::Illegal;
+            return;
         }
         let was = self.unplug(reporter);
-        quiet(StepNote::Unplug { reporter, was })
+        *note = StepNote::Unplug { reporter, was };
     }
 
-    /// Makes the step of an op.
-    fn on_op(&mut self, hart: u8, op: Op) -> Outcome
+    /// Makes the step of the op that stands at a hart's pc. False where none stands there; then nothing changes.
+    fn on_op(&mut self, hart: u8, note: &mut StepNote) -> bool
         requires { hart < self.old.firmware.events.harts }
         ensures acts { (plan : Plan) (s : BoardState) (stack : Stack) → Shows plan s self.old
             → slice_get s.machine.stacks hart ≡ Some stack
-            → Acts hart plan s (Some (allowed hart plan s.machine.stacks (board_reach stack s) op)) self.new
-            (Some result) }
+            → Acts hart plan s (on_chosen hart plan s.machine.stacks (board_reach stack s) None) self.new
+            (came result (outcome_of note.new None)) }
         ensures harts { self.new.firmware.events.harts ≡ self.old.firmware.events.harts }
+        ensures counts { self.new.counts.items ≡ self.old.counts.items }
     {
-        match op {
-            Op::Ack { bank } => self.on_ack(hart, bank),
-            Op::Unplug { reporter } => self.on_unplug(hart, reporter),
-            _ => quiet(step(&mut self.firmware, hart, op)),
+        let pc = self.firmware.regs(hart).pc;
+        let Some(op) = self.index.get(pc) else {
+            return false;
+        };
+        match *op {
+            Op::Ack { bank } => {
+                self.on_ack(hart, bank, note);
+                true
+            }
+            Op::Unplug { reporter } => {
+                self.on_unplug(hart, reporter, note);
+                true
+            }
+            _ => {
+                step(&mut self.firmware, hart, op, note);
+                true
+            }
         }
     }
 
-    /// Makes a hart's step, but for what is counted of it. None where the hart has none.
-    fn act(&mut self, hart: u8) -> Option<Outcome>
+    /// Makes a hart's step, but for what is counted of it. False where the hart has none.
+    fn act(&mut self, hart: u8, outcome: &mut Outcome) -> bool
         requires { hart < self.old.firmware.events.harts }
         ensures acts { (plan : Plan) (s : BoardState) (stack : Stack) → Shows plan s self.old
             → slice_get s.machine.stacks hart ≡ Some stack
-            → Acts hart plan s (own_step hart plan s.machine.stacks (board_reach stack s)) self.new result }
+            → Acts hart plan s (own_step hart plan s.machine.stacks (board_reach stack s)) self.new
+            (came result outcome.new) }
         ensures harts { self.new.firmware.events.harts ≡ self.old.firmware.events.harts }
+        ensures counts { self.new.counts.items ≡ self.old.counts.items }
     {
         if let Some(bank) = self.due(hart) {
-            return self.drain(bank);
+            return self.drain(bank, outcome);
         }
+        outcome.published = None;
         if let Some(at) = self.firmware.deliver(hart) {
-            return Some(quiet(StepNote::Deliver { id: at.id().0 }));
+            outcome.note = StepNote::Deliver { id: at.id().0 };
+            return true;
         }
-        let pc = self.firmware.regs(hart).pc;
-        match self.index.get(pc) {
-            Some(op) => Some(self.on_op(hart, op)),
-            None => None,
-        }
+        self.on_op(hart, &mut outcome.note)
     }
 
-    /// Makes the step of a hart, which the board has. None exactly where the hart has none: it has made its budget,
-    /// no drain is due, no event is to be delivered and no op stands at its pc. Then nothing changes.
-    pub fn hart_step(&mut self, hart: u8) -> Option<Outcome>
+    /// Makes the step of a hart, which the board has, and says what came of it. False exactly where the hart has
+    /// none: it has made its budget, no drain is due, no event is to be delivered and no op stands at its pc. Then
+    /// nothing changes but the outcome, of which nothing is known.
+    pub fn hart_step(&mut self, hart: u8, outcome: &mut Outcome) -> bool
         requires { hart < self.old.firmware.events.harts }
         ensures steps { (plan : Plan) (s : BoardState) → Shows plan s self.old
-            → Steps plan s (hart_step hart plan s) self.new result }
+            → Steps plan s (hart_step hart plan s) self.new (came result outcome.new) }
         ensures harts { self.new.firmware.events.harts ≡ self.old.firmware.events.harts }
     {
         let _harts = self.firmware.harts();
         let at = hart as usize;
-        let mut counts = self.counts[at].again();
-        if counts.steps() >= u32::from(self.budgets[at]) {
-            return None;
+        if self.counts[at].steps() >= u32::from(self.budgets[at]) {
+            return false;
         }
-        let Some(outcome) = self.act(hart) else {
-            return None;
-        };
-        counts.count(&outcome.note);
-        self.counts[at] = counts;
-        Some(outcome)
+        if !self.act(hart, outcome) {
+            return false;
+        }
+        self.counts[at].count(&outcome.note);
+        true
     }
 }

@@ -13,12 +13,14 @@ pub struct Outcome {
     pub published: Option<Published>,
 }
 
-/// A step that published nothing.
-pub(crate) fn quiet(note: StepNote) -> Outcome
-    ensures { result ≡ record { note = note; published = None } }
-{
-    Outcome {
-        note,
-        published: None,
+impl Outcome {
+    /// That of no step: idle, and nothing was published.
+    pub fn new() -> Outcome
+        ensures { result ≡ record { note = StepNote.Idle; published = None } }
+    {
+        Outcome {
+            note: StepNote::Idle,
+            published: None,
+        }
     }
 }

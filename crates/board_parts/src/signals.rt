@@ -6,7 +6,7 @@ ghost use Rattle.sse_base.specs.Events.{is_on_board};
 ghost use Rattle.reri_fields.specs.Drain.BankNote.{Drew};
 ghost use Rattle.board_plan.specs.Step.{drain_note, event_signalled, events_after, level_event, on_board, published_by, signal_event};
 
-use crate::outcome::{Outcome, quiet};
+use crate::outcome::Outcome;
 use board_plan::{BankDecl, Published, StepNote};
 use reri_fields::DrainNote;
 use sbi_sse::{EventId, Firmware, Instance};
@@ -75,53 +75,58 @@ fn signal_level(firmware: &mut Firmware, decl: &BankDecl, level: u8) -> Option<u
     }
 }
 
-/// What a step of a bank's drain came to; where the drain is over, its event is signalled.
+/// Notes that a drain read the status of a record, torn or not.
+fn checked(bank: u8, rec: u8, torn: bool, note: &mut StepNote)
+    ensures { note.new ≡ StepNote.Check bank rec torn }
+{
+    *note = StepNote::Check { bank, rec, torn };
+}
+
+/// Says what a step of a bank's drain came to; where the drain is over, its event is signalled.
 pub(crate) fn drawn(
     firmware: &mut Firmware,
     decl: &BankDecl,
     bank: u8,
     rec: u8,
-    did: DrainNote,
-) -> Outcome
-    ensures note { result.note ≡ drain_note bank decl.now firmware.old.events rec did }
-    ensures published { result.published ≡ published_by bank (Drew rec did) }
+    did: &DrainNote,
+    outcome: &mut Outcome,
+)
+    ensures note { outcome.new.note ≡ drain_note bank decl.now firmware.old.events rec did.now }
+    ensures published { outcome.new.published ≡ published_by bank (Drew rec did.now) }
     ensures next { firmware.new ≡ record firmware.old {
       events = events_after decl.now firmware.old.events
-          (Drew rec did);
+          (Drew rec did.now);
     } }
     ensures harts { firmware.new.events.harts ≡ firmware.old.events.harts }
     ensures instances { firmware.new.events.instances ≡ firmware.old.events.instances }
 {
-    match did {
-        DrainNote::Scanned { rec: found } => quiet(StepNote::Scan {
+    outcome.published = None;
+    match *did {
+        DrainNote::Scanned { rec: found } => outcome.note = StepNote::Scan {
             bank,
             rec: Some(found),
-        }),
-        DrainNote::Over => quiet(StepNote::Scan { bank, rec: None }),
-        DrainNote::Claimed => quiet(StepNote::Claim { bank, rec }),
-        DrainNote::Read { register } => quiet(StepNote::Read {
+        },
+        DrainNote::Over => outcome.note = StepNote::Scan { bank, rec: None },
+        DrainNote::Claimed => outcome.note = StepNote::Claim { bank, rec },
+        DrainNote::Read { register } => outcome.note = StepNote::Read {
             bank,
             rec,
             register,
-        }),
-        DrainNote::Torn => quiet(StepNote::Check {
+        },
+        DrainNote::Torn => checked(bank, rec, true, &mut outcome.note),
+        DrainNote::Published { copy } => {
+            checked(bank, rec, false, &mut outcome.note);
+            outcome.published = Some(Published { bank, copy });
+        }
+        DrainNote::Invalidated { cleared } => outcome.note = StepNote::Invalidate {
             bank,
             rec,
-            torn: true,
-        }),
-        DrainNote::Published { copy } => Outcome {
-            note: StepNote::Check {
-                bank,
-                rec,
-                torn: false,
-            },
-            published: Some(Published { bank, copy }),
+            cleared,
         },
-        DrainNote::Invalidated { cleared } => quiet(StepNote::Invalidate { bank, rec, cleared }),
-        DrainNote::Signal { level } => quiet(StepNote::Signal {
+        DrainNote::Signal { level } => outcome.note = StepNote::Signal {
             bank,
             level,
             id: signal_level(firmware, decl, level),
-        }),
+        },
     }
 }

@@ -2,5 +2,6 @@
 pub mod Asking
 pub mod Fitting
 pub mod Playing
+pub mod Telling
 pub mod Trying
 pub mod Wanting

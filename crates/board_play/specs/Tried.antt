@@ -12,6 +12,7 @@ use Rattle.board_plan.specs.State.{BoardState, start_state}
 use Rattle.board_plan.specs.Step.{acts_made, wants}
 use Rattle.board_plan.specs.Run.{Noted, lists, notes, ran, round, rounds, run, AreRounds}
 use Rattle.board_core.specs.Played.{Played, own_run, state_of}
+use Rattle.board_core.specs.Watched.{ToldAll}
 
 -- whether a note is that of a step
 abbrev pub is_step : StepNote → Bool
@@ -88,6 +89,21 @@ pub record Plays (b : Played) (left : List (List Act)) (ts : List Step) (c : Pla
   pub more : (devices : List (List Act)) → Fits devices b left
       → (done : List Step) → HasTried b.plan devices b done → HasTried b.plan devices c (done ++ ts)
   pub fits : (devices : List (List Act)) → Fits devices b left → Fits devices c rest
+
+-- ---- What is told ----
+
+-- a watcher was told of a step where it was made, and else is as it was
+abbrev pub TellsIf : {W : Type 0} → (W → Noted → W → Type 0) → Bool → Noted → W → W → Type 0
+TellsIf told false n w v = v ≡ w
+TellsIf told true n w v = told w n v
+
+-- a watcher was told of all steps that a board made since
+pub record Tells {W : Type 0} (told : W → Noted → W → Type 0) (b c : Played) (w v : W) : Type 0 where
+  pub made : List Noted
+  pub notes : (own_run c).notes ≡ (own_run b).notes ++ made
+  pub told_all : ToldAll told made w v
+
+-- ---- Rounds ----
 
 -- some rounds were played, each of which made a step
 pub record IsAfter (plan : Plan) (devices : List (List Act)) (b : Played) : Type 0 where

@@ -4,5 +4,5 @@ pub mod LineParts
 pub mod LineTexts
 pub mod OneMore
 pub mod Shown
-pub mod Texts
+pub mod Tracing
 pub mod Words

@@ -2,3 +2,4 @@
 pub mod Reports
 pub mod Writing
 pub mod Told
+pub mod Tracing

@@ -8,7 +8,9 @@ mod pages;
 mod reports;
 mod run_lines;
 mod run_texts;
+mod tracer;
 mod walks;
 mod writes;
 
-pub use reports::{report, trace};
+pub use reports::{report, report_brief, trace};
+pub use tracer::Tracer;

@@ -8,12 +8,12 @@ ghost use Rattle.board_report.specs.Reports.{report_bytes, report_lines, trace_b
 ghost use Rattle.board_report.specs.Writing.{many};
 
 use crate::run_texts::{write_full, write_short, write_trace};
-use board_core::Board;
+use board_core::{Board, Brief};
 use ras_io::{Sink, SinkFault};
 
-/// Writes the report of a board after the steps that it has made, in full or short; each line is one write. The one
-/// fault is the sink's own, of which its count tells; up to there the report was appended.
-pub fn report<K: Sink>(board: &Board, short: bool, sink: &mut K) -> Result<(), SinkFault>
+/// Writes the report of a board that keeps no notes, after the steps that it has made, in full or short; each line is
+/// one write. The one fault is the sink's own, of which its count tells; up to there the report was appended.
+pub fn report_brief<K: Sink>(board: &Brief, short: bool, sink: &mut K) -> Result<(), SinkFault>
     ensures bytes { Puts (K.written sink.old) (K.written sink.new) result
         (report_bytes short board.now.plan (own_run board.now)) }
     ensures cause { HasCause (K.faults sink.old) (K.faults sink.new) result }
@@ -27,6 +27,18 @@ pub fn report<K: Sink>(board: &Board, short: bool, sink: &mut K) -> Result<(), S
     } else {
         write_full(board.plan(), board.parts(), steps, &fates, sink)
     }
+}
+
+/// Writes the report of a board after the steps that it has made, in full or short; each line is one write. The one
+/// fault is the sink's own, of which its count tells; up to there the report was appended.
+pub fn report<K: Sink>(board: &Board, short: bool, sink: &mut K) -> Result<(), SinkFault>
+    ensures bytes { Puts (K.written sink.old) (K.written sink.new) result
+        (report_bytes short board.now.plan (own_run board.now)) }
+    ensures cause { HasCause (K.faults sink.old) (K.faults sink.new) result }
+    ensures writes { OnOk result (K.writes sink.new ≡ many (K.writes sink.old) (length
+        (report_lines short board.now.plan (own_run board.now)))) }
+{
+    report_brief(board.brief(), short, sink)
 }
 
 /// Writes the trace of a board, a line for each step that it has made; each line is one write. The one fault is the

@@ -28,15 +28,20 @@ copies_few plan acts s (t ∷ ts) =
     one_few t o (copies plan acts (state_after s o) ts) (notes plan acts (state_after s o) ts)
     (copies_few plan acts (state_after s o) ts)
 
--- so there are few on a board
-pub few_published : (b : Played) → IsPlayed b → length (own_run b).published < 2 ^ 32
-unfolding ran
-few_published b is =
-    let copies : length (own_run b).published ≤ length (own_run b).notes =
-    copies_few b.plan (acts_of b) (start_state b.plan) b.steps in
+-- a board has made few steps
+pub few_notes : (b : Played) → IsPlayed b → length (own_run b).notes ≤ 160000
+few_notes b is =
     let told : length (steps_of (own_run b).notes) ≡ length (own_run b).notes =
     length-map (own_run b).notes (λ (n : Noted). n.by) in
     let made : length (steps_of (own_run b).notes) ≡ length b.steps = ap length is.all_made in
     let few : length b.steps ≤ most_steps b.plan = is.few in
     let most : most_steps b.plan ≤ 160000 = is.is_plan.few_steps in
-    omega (arith, copies, told, made, few, most)
+    omega (arith, told, made, few, most)
+
+-- so few copies were published on it
+pub few_published : (b : Played) → IsPlayed b → length (own_run b).published < 2 ^ 32
+unfolding ran
+few_published b is =
+    let copies : length (own_run b).published ≤ length (own_run b).notes =
+    copies_few b.plan (acts_of b) (start_state b.plan) b.steps in
+    omega (arith, copies, few_notes b is)

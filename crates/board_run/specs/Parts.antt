@@ -20,6 +20,11 @@ use Rattle.board_run.specs.declared.status.Status.TheVariants as answers
 use Rattle.board_run.specs.Retired.{page_lines}
 use Rattle.board_run.specs.Play.{WritesOutput, WritesFront}
 
+-- whether a trace is shown
+abbrev pub is_traced : Shown → Bool
+is_traced Traced = true
+is_traced what = false
+
 -- what is shown of a run on the board of a plan
 abbrev pub shown_bytes : Shown → Plan → Ran → List ℕ
 shown_bytes Full plan r = report_bytes false plan r

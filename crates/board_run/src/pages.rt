@@ -11,7 +11,7 @@ ghost use Rattle.board_run.specs.Play.{is_silent, is_write_fault};
 ghost use Rattle.board_run.specs.Parts.{Writes, state_of, status_of};
 
 use crate::status::Status;
-use board_core::Board;
+use board_core::Brief;
 use ras_io::{Sink, SinkFault};
 use ras_policy::{Page, pages};
 use ras_text::{Line, put_dec, put_hex, put_word};
@@ -74,7 +74,7 @@ pub(crate) fn status_of(written: Result<(), SinkFault>) -> Status
 pub(crate) fn write_pages<K: Sink>(
     alloc: Global,
     threshold: u16,
-    board: &Board,
+    board: &Brief,
     sink: &mut K,
 ) -> Status
     ensures wrote { Writes (bytes_of (page_lines threshold (own_run board.now).published)) (K.written sink.old)

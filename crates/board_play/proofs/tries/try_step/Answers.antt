@@ -10,4 +10,5 @@ returns-in-Hart g c =
     record {
       goes = subst (λ (t : Step). Goes c.args.board.now left (t ∷ []) c.try_hart.result c.try_hart.new.board left)
           (sym c.in-Hart.is) (c.try_hart.ensures.goes left);
+      tells = c.try_hart.ensures.tells;
     }

@@ -4,11 +4,11 @@ use Rattle.ras_io.proofs.Puts.{Puts-same}
 use Rattle.board_plan.specs.declared.notes.StepNote.{StepNote}
 use Rattle.board_plan.specs.Text.{bytes_of}
 use Rattle.board_core.specs.Played.{acts_of, own_run}
+use Rattle.board_core.proofs.Texts.{run_has_texts}
 use Rattle.board_report.specs.Told.{HaveTexts}
 use Rattle.board_report.specs.Reports.{trace_bytes}
 use Rattle.board_report.proofs.Growing.{as-many}
 use Rattle.board_report.proofs.Shown.{trace-told}
-use Rattle.board_report.proofs.Texts.{run_has_texts}
 use Rattle.board_report.proofs.reports.trace.Goals as goal
 
 pub write_trace-requires-clause-texts : goal.write_trace-requires-clause-texts

@@ -1,4 +1,5 @@
 -- What the board shows, for each text of its plan.
+use Rattle.std.proofs.Common.{sym, ◌∙◌}
 use Rattle.board_run.specs.Play.{lists_of}
 use Rattle.board_run.proofs.Given.{each_reports, are_reports}
 use Rattle.board_run.proofs.Written.{play_wrote}
@@ -9,4 +10,5 @@ returns-clause-wrote g c =
     play_wrote c.args.what c.args.plan.now (lists_of g.D.ErrorDevice.left c.args.devices.items) c.in-Ok.board _ _
     c.write_shown.result c.requires.plan (are_reports c.args.plan.now
     (lists_of g.D.ErrorDevice.left c.args.devices.items) c.requires.reports
-    (each_reports g.D.ErrorDevice.left c.args.devices.items)) c.in-Ok.ensures c.write_shown.ensures.wrote
+    (each_reports g.D.ErrorDevice.left c.args.devices.items)) c.in-Ok.ensures.run
+    (c.write_shown.ensures.wrote (sym c.is_traced.ensures ∙ c.if-is_traced.false))

@@ -1,59 +1,50 @@
--- A hart's step is kept, and where there is none all stays.
-use Rattle.std.proofs.Common.{◌<◌, refl, ap, subst, arith}
+-- A hart's step is kept with its note, and where there is none all stays.
+use Rattle.std.proofs.Common.{refl, sym, ap, ◌∙◌}
 use Rattle.board_plan.specs.Step.{hart_step}
-use Rattle.board_core.specs.Inside.{played}
-use Rattle.board_core.specs.Played.{IsSafe, Played, acts_of, state_of}
-use Rattle.board_core.proofs.Onward.{idle_board, hart_board, hart_fits}
-use Rattle.board_core.proofs.Safe.{is_safe}
-use Rattle.board_laws.proofs.Safe.{run_is_safe}
+use Rattle.board_core.specs.Played.{Played, after_hart, note_if, note_of, state_of}
+use Rattle.board_core.proofs.BoardNotes.{hart_idle, hart_went, has_place, on_board}
 use Rattle.board_core.proofs.board.Board.hart_step.Goals as goal
 
 pub invariant_of-self : goal.invariant_of-self
 invariant_of-self c =
     let x = c.self.inside in
-    let s = state_of (played x) in
-    idle_board x _ (hart_step c.args.hart x.plan s) c.self.invariant refl refl refl refl c.hart_step.ensures.harts
-    (c.in_default.ensures.steps x.plan s c.self.invariant.shows)
+    hart_idle x _ c.args.hart c.self.invariant c.hart_step.ensures.next refl
+    (sym (ap (λ q. note_if q c.hart_step.new.outcome.note) c.if-not-hart_step.true) ∙ c.hart_step.ensures.note)
 
-pub keep-requires-clause-steps : goal.keep-requires-clause-steps
-keep-requires-clause-steps c =
-    let x = c.self.inside in
-    let low : c.args.hart < x.plan.harts =
-    omega (arith, c.requires, ap (λ (b : Played). b.plan.harts) c.self.view_is) in
-    (hart_fits x c.args.hart c.hart_step.new.self c.in-Some.outcome low c.self.invariant
-    (c.in-Some.ensures.steps x.plan (state_of (played x)) c.self.invariant.shows)).steps
+pub returns-then-not-hart_step-clause-next : goal.returns-then-not-hart_step-clause-next
+returns-then-not-hart_step-clause-next c = c.hart_step.ensures.next ∙ ap (after_hart c.args.hart) c.self.view_is
 
-pub keep-requires-clause-notes : goal.keep-requires-clause-notes
-keep-requires-clause-notes c =
-    let x = c.self.inside in
-    let low : c.args.hart < x.plan.harts =
-    omega (arith, c.requires, ap (λ (b : Played). b.plan.harts) c.self.view_is) in
-    (hart_fits x c.args.hart c.hart_step.new.self c.in-Some.outcome low c.self.invariant
-    (c.in-Some.ensures.steps x.plan (state_of (played x)) c.self.invariant.shows)).notes
+pub returns-then-not-hart_step-clause-note : goal.returns-then-not-hart_step-clause-note
+returns-then-not-hart_step-clause-note c =
+    sym (ap (λ q. note_if q c.hart_step.new.outcome.note) c.if-not-hart_step.true) ∙ c.hart_step.ensures.note
+    ∙ ap (λ (b : Played). note_of (hart_step c.args.hart b.plan (state_of b))) c.self.view_is
 
-pub keep-requires-clause-published : goal.keep-requires-clause-published
-keep-requires-clause-published c =
+pub push-requires : goal.push-requires
+push-requires c =
     let x = c.self.inside in
-    let low : c.args.hart < x.plan.harts =
-    omega (arith, c.requires, ap (λ (b : Played). b.plan.harts) c.self.view_is) in
-    (hart_fits x c.args.hart c.hart_step.new.self c.in-Some.outcome low c.self.invariant
-    (c.in-Some.ensures.steps x.plan (state_of (played x)) c.self.invariant.shows)).published
+    let next = c.hart_step.new.self in
+    let n = c.hart_step.new.outcome.note in
+    has_place x next n c.self.invariant
+    (hart_went c.args.hart x.brief next n c.hart_step.ensures.next
+    (sym (ap (λ q. note_if q n) c.if-not-hart_step.false) ∙ c.hart_step.ensures.note)
+    (c.hart_step.ensures.text c.if-not-hart_step.false))
+    c.steps-steps.ensures.played
 
 pub invariant_of-self-2 : goal.invariant_of-self-2
 invariant_of-self-2 c =
     let x = c.self.inside in
-    let low : c.args.hart < x.plan.harts =
-    omega (arith, c.requires, ap (λ (b : Played). b.plan.harts) c.self.view_is) in
-    let kept = c.keep.ensures in
-    hart_board x _ c.args.hart c.in-Some.outcome low c.self.invariant refl refl c.hart_step.ensures.harts
-    (c.in-Some.ensures.steps x.plan (state_of (played x)) c.self.invariant.shows)
-    (record { steps = kept.steps; notes = kept.notes; published = kept.published; room = kept.room }) c.count.ensures
+    let next = c.hart_step.new.self in
+    let n = c.hart_step.new.outcome.note in
+    on_board x _ n c.self.invariant
+    (hart_went c.args.hart x.brief next n c.hart_step.ensures.next
+    (sym (ap (λ q. note_if q n) c.if-not-hart_step.false) ∙ c.hart_step.ensures.note)
+    (c.hart_step.ensures.text c.if-not-hart_step.false))
+    c.steps-steps.ensures.played c.push.ensures.items c.push.ensures.room
 
-pub returns-in_default-clause-safe : goal.returns-in_default-clause-safe
-returns-in_default-clause-safe c = is_safe (played c.self.inside) c.self.invariant.keeps.played
+pub returns-clause-next : goal.returns-clause-next
+returns-clause-next c = c.hart_step.ensures.next ∙ ap (after_hart c.args.hart) c.self.view_is
 
-pub returns-clause-safe : goal.returns-clause-safe
-returns-clause-safe c =
-    let x = c.self.inside in
-    run_is_safe x.plan (acts_of (played x)) c.keep.new.self.steps.items.items c.self.invariant.keeps.played.is_plan
-    c.self.invariant.keeps.played.reports
+pub returns-clause-note : goal.returns-clause-note
+returns-clause-note c =
+    sym (ap (λ q. note_if q c.hart_step.new.outcome.note) c.if-not-hart_step.false) ∙ c.hart_step.ensures.note
+    ∙ ap (λ (b : Played). note_of (hart_step c.args.hart b.plan (state_of b))) c.self.view_is

@@ -1,152 +1,65 @@
--- A reporter's step is kept with its act, and where there is none all stays.
-use Rattle.std.proofs.Common.{◌≡◌, ◌<◌, true, Some, length, refl, sym, ap, ◌∙◌, subst, arith}
-use Rattle.std.specs.Vec.{with_item}
+-- A reporter's step is kept with its note, and where there is none all stays.
+use Rattle.std.proofs.Common.{◌≡◌, ◌<◌, true, length, refl, sym, ap, ◌∙◌, subst, arith}
 use Rattle.board_plan.specs.Step.{reporter_step}
-use Rattle.board_core.specs.declared.board.Board.TheInside.{Inside}
-use Rattle.board_core.specs.Inside.{played}
-use Rattle.board_core.specs.Played.{IsReport, IsSafe, Played, after_reporter, is_list, listed, note_of, state_of}
-use Rattle.board_core.proofs.Onward.{act_board, act_fits, act_has_place, act_is, act_next, act_note, idle_board, no_act_idle}
-use Rattle.board_core.proofs.Safe.{act_safe, is_safe}
+use Rattle.board_core.specs.Played.{Played, after_reporter, is_list, listed, note_if, note_of, state_of}
+use Rattle.board_core.proofs.BoardNotes.{act_idle, act_went, has_place, on_board}
 use Rattle.board_core.proofs.board.Board.reporter_step.Goals as goal
 
-pub returns-in_default-clause-note : goal.returns-in_default-clause-note
-returns-in_default-clause-note c =
-    no_act_idle c.args.reporter c.args.self.now.plan (state_of c.args.self.now) c.args.act c.in_default.is
+pub reporter_step-requires-clause-list : goal.reporter_step-requires-clause-list
+reporter_step-requires-clause-list c =
+    subst (λ (b : Played). is_list b.plan c.args.reporter ≡ true → c.args.act ≡ listed b c.args.reporter)
+    (sym c.self.view_is) c.requires.list
 
 pub invariant_of-self : goal.invariant_of-self
 invariant_of-self c =
     let x = c.self.inside in
-    let s = state_of (played x) in
-    idle_board x _ (reporter_step c.args.reporter x.plan (Some c.in-Some.next) s) c.self.invariant refl refl refl refl
-    c.reporter_step.ensures.harts
-    (c.in_default-reporter_step.ensures.steps x.plan s c.self.invariant.shows c.self.invariant.keeps.reached.early)
+    act_idle x _ c.args.reporter c.args.act c.self.invariant c.reporter_step.ensures.next refl
+    (sym (ap (λ q. note_if q c.reporter_step.new.outcome.note) c.if-not-reporter_step.true)
+    ∙ c.reporter_step.ensures.note)
+
+pub returns-then-not-reporter_step-clause-next : goal.returns-then-not-reporter_step-clause-next
+returns-then-not-reporter_step-clause-next c =
+    c.reporter_step.ensures.next ∙ ap (after_reporter c.args.reporter c.args.act) c.self.view_is
+
+pub returns-then-not-reporter_step-clause-note : goal.returns-then-not-reporter_step-clause-note
+returns-then-not-reporter_step-clause-note c =
+    sym (ap (λ q. note_if q c.reporter_step.new.outcome.note) c.if-not-reporter_step.true)
+    ∙ c.reporter_step.ensures.note
+    ∙ ap (λ (b : Played). note_of (reporter_step c.args.reporter b.plan c.args.act (state_of b))) c.self.view_is
 
 pub push-requires : goal.push-requires
 push-requires c =
     let x = c.self.inside in
-    let low : c.args.reporter < length x.plan.reporters =
+    let next = c.reporter_step.new.self in
+    let n = c.reporter_step.new.outcome.note in
+    let low : c.args.reporter < length x.brief.plan.reporters =
     omega (arith, c.requires.there, ap (λ (b : Played). length b.plan.reporters) c.self.view_is) in
-    act_has_place x c.args.reporter c.in-Some.next c.reporter_step.new.self c.in-Some-reporter_step.outcome
-    c.index_mut.result.now low c.self.invariant
-    (c.in-Some-reporter_step.ensures.steps x.plan (state_of (played x)) c.self.invariant.shows
-    c.self.invariant.keeps.reached.early) c.index_mut.ensures.value
-
-pub keep-requires-clause-steps : goal.keep-requires-clause-steps
-keep-requires-clause-steps c =
-    let x = c.self.inside in
-    (act_fits x c.args.reporter c.in-Some.next c.reporter_step.new.self c.in-Some-reporter_step.outcome
-    c.self.invariant (c.in-Some-reporter_step.ensures.steps x.plan (state_of (played x)) c.self.invariant.shows
-    c.self.invariant.keeps.reached.early)).steps
-
-pub keep-requires-clause-notes : goal.keep-requires-clause-notes
-keep-requires-clause-notes c =
-    let x = c.self.inside in
-    (act_fits x c.args.reporter c.in-Some.next c.reporter_step.new.self c.in-Some-reporter_step.outcome
-    c.self.invariant (c.in-Some-reporter_step.ensures.steps x.plan (state_of (played x)) c.self.invariant.shows
-    c.self.invariant.keeps.reached.early)).notes
-
-pub keep-requires-clause-published : goal.keep-requires-clause-published
-keep-requires-clause-published c =
-    let x = c.self.inside in
-    (act_fits x c.args.reporter c.in-Some.next c.reporter_step.new.self c.in-Some-reporter_step.outcome
-    c.self.invariant (c.in-Some-reporter_step.ensures.steps x.plan (state_of (played x)) c.self.invariant.shows
-    c.self.invariant.keeps.reached.early)).published
+    has_place x next n c.self.invariant
+    (act_went c.args.reporter c.args.act x.brief next n low c.self.invariant.played
+    c.reporter_step.ensures.next
+    (sym (ap (λ q. note_if q n) c.if-not-reporter_step.false) ∙ c.reporter_step.ensures.note)
+    (c.reporter_step.ensures.text c.if-not-reporter_step.false))
+    c.steps-steps.ensures.played
 
 pub invariant_of-self-2 : goal.invariant_of-self-2
 invariant_of-self-2 c =
     let x = c.self.inside in
-    let r = c.args.reporter in
-    let a = c.in-Some.next in
-    let low : r < length x.plan.reporters =
+    let next = c.reporter_step.new.self in
+    let n = c.reporter_step.new.outcome.note in
+    let low : c.args.reporter < length x.brief.plan.reporters =
     omega (arith, c.requires.there, ap (λ (b : Played). length b.plan.reporters) c.self.view_is) in
-    let handed : is_list x.plan r ≡ true → Some a ≡ listed (played x) r =
-    subst (λ (b : Played). is_list b.plan r ≡ true → Some a ≡ listed b r) (sym c.self.view_is)
-    (λ q. sym c.in-Some.is ∙ c.requires.list q) in
-    let kept = c.keep.ensures in
-    act_board x _ r a c.in-Some-reporter_step.outcome low c.self.invariant refl c.reporter_step.ensures.harts
-    (c.in-Some-reporter_step.ensures.steps x.plan (state_of (played x)) c.self.invariant.shows
-    c.self.invariant.keeps.reached.early) handed (subst IsReport c.in-Some.is c.requires.report)
-    (record {
-      old = c.index_mut.result.now;
-      new = c.push.new.self;
-      read = c.index_mut.ensures.value;
-      items = c.push.ensures.items;
-      room = c.push.ensures.room;
-      acts = refl;
-    })
-    (record { steps = kept.steps; notes = kept.notes; published = kept.published; room = kept.room }) c.count.ensures
+    on_board x _ n c.self.invariant
+    (act_went c.args.reporter c.args.act x.brief next n low c.self.invariant.played
+    c.reporter_step.ensures.next
+    (sym (ap (λ q. note_if q n) c.if-not-reporter_step.false) ∙ c.reporter_step.ensures.note)
+    (c.reporter_step.ensures.text c.if-not-reporter_step.false))
+    c.steps-steps.ensures.played c.push.ensures.items c.push.ensures.room
 
 pub returns-clause-next : goal.returns-clause-next
-returns-clause-next c =
-    let x = c.self.inside in
-    let r = c.args.reporter in
-    let a = c.in-Some.next in
-    let low : r < length x.plan.reporters =
-    omega (arith, c.requires.there, ap (λ (b : Played). length b.plan.reporters) c.self.view_is) in
-    let kept = c.keep.ensures in
-    let y : Inside =
-    record {
-      plan = x.plan;
-      parts = c.reporter_step.new.self;
-      acts = with_item x.acts r c.push.new.self;
-      log = c.keep.new.self;
-      tally = c.count.new.self;
-    } in
-    let steps = c.in-Some-reporter_step.ensures.steps x.plan (state_of (played x)) c.self.invariant.shows
-    c.self.invariant.keeps.reached.early in
-    act_next x y r a c.in-Some-reporter_step.outcome steps
-    (act_is x y r a c.in-Some-reporter_step.outcome low c.self.invariant refl
-    (record {
-      old = c.index_mut.result.now;
-      new = c.push.new.self;
-      read = c.index_mut.ensures.value;
-      items = c.push.ensures.items;
-      room = c.push.ensures.room;
-      acts = refl;
-    })
-    (record { steps = kept.steps; notes = kept.notes; published = kept.published; room = kept.room }))
-    ∙ ap (after_reporter r (Some a)) c.self.view_is
-    ∙ ap (λ b. after_reporter r b c.args.self.now) (sym c.in-Some.is)
+returns-clause-next c = c.reporter_step.ensures.next ∙ ap (after_reporter c.args.reporter c.args.act) c.self.view_is
 
 pub returns-clause-note : goal.returns-clause-note
 returns-clause-note c =
-    let x = c.self.inside in
-    let r = c.args.reporter in
-    let a = c.in-Some.next in
-    let steps = c.in-Some-reporter_step.ensures.steps x.plan (state_of (played x)) c.self.invariant.shows
-    c.self.invariant.keeps.reached.early in
-    act_note x r a c.reporter_step.new.self c.in-Some-reporter_step.outcome steps
-    ∙ ap (λ (b : Played). note_of (reporter_step r b.plan (Some a) (state_of b))) c.self.view_is
-    ∙ ap (λ b. note_of (reporter_step r c.args.self.now.plan b (state_of c.args.self.now))) (sym c.in-Some.is)
-
-pub returns-in_default-reporter_step-clause-safe : goal.returns-in_default-reporter_step-clause-safe
-returns-in_default-reporter_step-clause-safe c = is_safe (played c.self.inside) c.self.invariant.keeps.played
-
-pub returns-clause-safe : goal.returns-clause-safe
-returns-clause-safe c =
-    let x = c.self.inside in
-    let r = c.args.reporter in
-    let a = c.in-Some.next in
-    let low : r < length x.plan.reporters =
-    omega (arith, c.requires.there, ap (λ (b : Played). length b.plan.reporters) c.self.view_is) in
-    let kept = c.keep.ensures in
-    let y : Inside =
-    record {
-      plan = x.plan;
-      parts = c.reporter_step.new.self;
-      acts = with_item x.acts r c.push.new.self;
-      log = c.keep.new.self;
-      tally = c.count.new.self;
-    } in
-    subst IsSafe
-    (sym (act_is x y r a c.in-Some-reporter_step.outcome low c.self.invariant refl
-    (record {
-      old = c.index_mut.result.now;
-      new = c.push.new.self;
-      read = c.index_mut.ensures.value;
-      items = c.push.ensures.items;
-      room = c.push.ensures.room;
-      acts = refl;
-    })
-    (record { steps = kept.steps; notes = kept.notes; published = kept.published; room = kept.room })))
-    (act_safe r a (played x) c.self.invariant.keeps.played low (subst IsReport c.in-Some.is c.requires.report))
+    sym (ap (λ q. note_if q c.reporter_step.new.outcome.note) c.if-not-reporter_step.false)
+    ∙ c.reporter_step.ensures.note
+    ∙ ap (λ (b : Played). note_of (reporter_step c.args.reporter b.plan c.args.act (state_of b))) c.self.view_is

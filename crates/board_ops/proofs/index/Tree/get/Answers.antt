@@ -3,4 +3,4 @@ use Rattle.std.proofs.Common.{◌∙◌}
 use Rattle.board_ops.proofs.index.Tree.get.Goals as goal
 
 pub returns : goal.returns
-returns c = λ ops h. c.copied.ensures ∙ c.get.ensures.value ∙ h.finds c.args.pc
+returns c = λ ops h. c.get.ensures.value ∙ h.finds c.args.pc

@@ -24,5 +24,5 @@ returns-clause-takes c =
     taken plan s p _ c.args.bank is.decl b c.acknowledge-full.new.self Acknowledges
     (Acknowledged c.acknowledge-full.result) _ h
     is.declared here (λ x stands there. c.acknowledge-full.ensures (bank_plan c.args.bank is.decl plan.recs) x stands)
-    (record { index = refl; decls = refl; budgets = refl; counts = refl; limits = refl; reporters = refl }) refl refl
-    c.quiet.ensures
+    (record { index = refl; decls = refl; budgets = refl; counts = refl; limits = refl; reporters = refl })
+    refl refl refl

@@ -15,10 +15,10 @@ returns-in_default-clause-takes c =
     λ plan s h.
     let p = c.args.self.now in
     let at = c.args.bank in
-    let d = c.index.result.now in
+    let d = c.index-decl.result.now in
     let b = c.index_mut.result.now in
     let decl = slice_get_read p.decls.items (length p.decls.items) at d refl (omega
-    (arith, p.declared, c.requires)) c.index.ensures in
+    (arith, p.declared, c.requires)) c.index-decl.ensures in
     let here = slice_get_read p.banks.items (length p.banks.items) at b refl c.requires c.index_mut.ensures.value in
     let is = bank_is plan s p at b h here in
     let same = (MatchOption-at_none _ _ c.in_default.is (c.step.ensures
@@ -42,10 +42,10 @@ returns-clause-takes c =
     λ plan s h.
     let p = c.args.self.now in
     let at = c.args.bank in
-    let d = c.index.result.now in
+    let d = c.index-decl.result.now in
     let b = c.index_mut.result.now in
     let decl = slice_get_read p.decls.items (length p.decls.items) at d refl (omega
-    (arith, p.declared, c.requires)) c.index.ensures in
+    (arith, p.declared, c.requires)) c.index-decl.ensures in
     let here = slice_get_read p.banks.items (length p.banks.items) at b refl c.requires c.index_mut.ensures.value in
     taken plan s p _ at d b c.step.new.self Drains (Drew c.in-Some.rec c.in-Some.did) _ h decl here
     (λ x stands there. MatchOption-at_some _ _ (c.in-Some.rec, c.in-Some.did) c.in-Some.is (c.step.ensures

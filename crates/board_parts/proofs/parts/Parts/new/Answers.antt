@@ -19,7 +19,7 @@ returns c =
         decls = c.into_vec.ensures ∙ c.in_ok-decls.ensures;
         banks = c.in_ok-banks.ensures;
         budgets_are = c.in_ok-budgets.ensures
-            ∙ ap (λ (ss : List Start). map (λ h. budget_of h ss) (range_with_len 0 plan.harts)) c.as_slice-2.ensures;
+            ∙ ap (λ (ss : List Start). map (λ h. budget_of h ss) (range_with_len 0 plan.harts)) c.as_slice-3.ensures;
         counts = c.in_ok-counts.ensures;
         limits_are = c.in_ok-limits.ensures
             ∙ ap (map (λ (r : Reporter). r.limit)) c.as_slice-reporters.ensures;

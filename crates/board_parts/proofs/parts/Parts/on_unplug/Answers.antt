@@ -18,4 +18,4 @@ returns-clause-acts c =
     (passes plan s c.args.self.now _ c.args.hart stack h there
     (record { index = refl; decls = refl; budgets = refl; counts = refl; limits = refl; reporters = refl }) refl
     c.pass.ensures))
-    c.quiet-2.ensures
+    refl

@@ -25,5 +25,5 @@ returns-clause-takes c =
     taken plan s p _ at is.decl b c.report-logged.new.self (Reports (record { step = n; report = c.args.report.now }))
     (Heard c.args.report.now c.report-logged.result) _ h is.declared here
     (λ x stands there. c.report-logged.ensures (bank_plan at is.decl plan.recs) x n (early at x there) stands)
-    (record { index = refl; decls = refl; budgets = refl; counts = refl; limits = refl; reporters = refl }) refl refl
-    c.quiet.ensures
+    (record { index = refl; decls = refl; budgets = refl; counts = refl; limits = refl; reporters = refl })
+    refl refl refl

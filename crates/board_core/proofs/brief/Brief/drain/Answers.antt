@@ -1,0 +1,15 @@
+-- The drain among the parts is that of the state.
+use Rattle.std.proofs.Common.{ap, ◌∙◌}
+use Rattle.std.specs.Option.{option_map}
+use Rattle.reri_fields.specs.Drain.{Draining}
+use Rattle.reri_bank.proofs.Stands.{get_there}
+use Rattle.board_core.proofs.Onward.{bank_stands}
+use Rattle.board_core.proofs.brief.Brief.drain.Goals as goal
+
+pub returns : goal.returns
+returns c =
+    λ x there.
+    let d = get_there c.args.self.now.plan.banks c.args.bank c.requires in
+    let stands = bank_stands c.self.inside c.args.self.now c.args.bank c.bank.result.now c.self.view_is
+    c.self.invariant c.bank.ensures d.0 x d.1 there in
+    c.phase.ensures ∙ ap (option_map (λ (d : Draining). (d.phase, d.rec))) (c.drain.ensures ∙ stands.drain_is)
