@@ -1,0 +1,5 @@
+//! Tests of the turns of lone workers.
+#![tactic(auto)]
+
+#[cfg(test)]
+mod turns;
