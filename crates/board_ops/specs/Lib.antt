@@ -2,3 +2,4 @@
 pub mod Executed
 pub mod Indexes
 pub mod Own
+pub mod Placing

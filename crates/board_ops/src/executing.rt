@@ -7,9 +7,9 @@ ghost use Rattle.board_plan.specs.Ops.{is_user, jumped, loaded, needs_supervisor
 ghost use Rattle.board_ops.specs.Own.{own_done, own_step};
 ghost use Rattle.board_ops.specs.Executed.{Executes};
 
-use crate::registers::{read, returned, with_register};
+use crate::registers::{put, read, returned};
 use board_plan::{Op, Reg, StepNote};
-use sbi_sse::{CallNote, Firmware, Privilege};
+use sbi_sse::{Firmware, Privilege};
 
 /// Whether an op is illegal in a hart's mode: user mode sees no register but a6 and a7, and makes no call, return,
 /// acknowledgement or unplugging (RISC-V Privileged Specification, in this project's profile).
@@ -48,8 +48,7 @@ fn set(firmware: &mut Firmware, hart: u8, reg: Reg, value: u64, note: &mut StepN
     requires { hart < firmware.old.events.harts }
     ensures { Executes hart firmware.old firmware.new note.new (set reg value (reach hart firmware.old)) }
 {
-    let regs = with_register(*firmware.regs(hart), reg, value);
-    firmware.set_regs(hart, &regs);
+    let _ = put(firmware, hart, reg, value);
     *note = StepNote::Set { reg, value };
 }
 
@@ -64,12 +63,8 @@ fn load(firmware: &mut Firmware, hart: u8, reg: Reg, addr: u64, note: &mut StepN
         *note = StepNote::Fault;
         return;
     };
-    let regs = with_register(*firmware.regs(hart), reg, word);
-    firmware.set_regs(hart, &regs);
-    *note = StepNote::Load {
-        reg,
-        value: read(&regs, reg),
-    };
+    let value = put(firmware, hart, reg, word);
+    *note = StepNote::Load { reg, value };
 }
 
 /// A word of memory takes a register.
@@ -151,12 +146,13 @@ fn sbi(firmware: &mut Firmware, hart: u8, eid: u64, fid: u64, args: [u64; 5], no
     ensures { Executes hart firmware.old firmware.new note.new
         (sbi hart eid fid args firmware.old.stacks (reach hart firmware.old)) }
 {
-    let CallNote { reply, written } = firmware.call(hart, eid, fid, args);
+    let mut written = [0; 10];
+    let code = firmware.answer(hart, eid, fid, args, &mut written);
     *note = StepNote::Call {
         eid,
         fid,
         args,
-        code: reply.error,
+        code,
         written,
     };
 }

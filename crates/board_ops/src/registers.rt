@@ -1,10 +1,13 @@
 //! The registers that an op can name.
 
-ghost use Rattle.std.specs.Prelude.{◌≡◌};
+ghost use Rattle.std.specs.Prelude.{◌≡◌, ◌<◌};
+ghost use Rattle.sse_base.specs.Machine.{stack_of};
+ghost use Rattle.hart_ctx.specs.Registers.{regs_of, with_regs};
 ghost use Rattle.board_ops.specs.Own.{register_in, returned_in, with_register};
+ghost use Rattle.board_ops.specs.Placing.{with_stack};
 
 use board_plan::Reg;
-use sbi_sse::{Privilege, Regs};
+use sbi_sse::{Firmware, Privilege, Regs};
 
 /// What a register reads.
 pub(crate) fn read(regs: &Regs, reg: Reg) -> u64
@@ -20,30 +23,46 @@ pub(crate) fn read(regs: &Regs, reg: Reg) -> u64
     }
 }
 
-/// The registers with another value in one of them; one of a single bit takes the value's lowest.
-pub(crate) fn with_register(regs: Regs, reg: Reg, value: u64) -> Regs
-    ensures { result ≡ with_register reg value regs }
+/// A register of a hart takes a value, and says what it reads then; one of a single bit takes the value's lowest.
+pub(crate) fn put(firmware: &mut Firmware, hart: u8, reg: Reg, value: u64) -> u64
+    requires { hart < firmware.old.events.harts }
+    ensures reads { result ≡ register_in reg (with_register reg value (regs_of (stack_of hart firmware.old))) }
+    ensures next { firmware.new ≡ with_stack hart (with_regs (with_register reg value
+        (regs_of (stack_of hart firmware.old))) (stack_of hart firmware.old)) firmware.old }
 {
+    let old = *firmware.regs(hart);
     let is_odd = value % 2 == 1;
     match reg {
-        Reg::A6 => Regs { a6: value, ..regs },
-        Reg::A7 => Regs { a7: value, ..regs },
-        Reg::Sepc => Regs {
-            sepc: value,
-            ..regs
-        },
-        Reg::Spp => Regs {
-            spp: is_odd,
-            ..regs
-        },
-        Reg::Spie => Regs {
-            spie: is_odd,
-            ..regs
-        },
-        Reg::Sie => Regs {
-            sie: is_odd,
-            ..regs
-        },
+        Reg::A6 => {
+            firmware.set_regs(hart, &Regs { a6: value, ..old });
+            value
+        }
+        Reg::A7 => {
+            firmware.set_regs(hart, &Regs { a7: value, ..old });
+            value
+        }
+        Reg::Sepc => {
+            firmware.set_regs(hart, &Regs { sepc: value, ..old });
+            value
+        }
+        Reg::Spp => {
+            firmware.set_regs(hart, &Regs { spp: is_odd, ..old });
+            is_odd as u64
+        }
+        Reg::Spie => {
+            firmware.set_regs(
+                hart,
+                &Regs {
+                    spie: is_odd,
+                    ..old
+                },
+            );
+            is_odd as u64
+        }
+        Reg::Sie => {
+            firmware.set_regs(hart, &Regs { sie: is_odd, ..old });
+            is_odd as u64
+        }
     }
 }
 

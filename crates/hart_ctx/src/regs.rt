@@ -39,23 +39,21 @@ pub fn enter(regs: &mut Regs, entry: u64, arg: u64, hart: u8) -> Saved
     ensures saved { result ≡ saved_of regs.old }
     ensures regs { regs.new ≡ entered entry arg hart regs.old }
 {
-    let old = *regs;
-    *regs = Regs {
-        pc: entry,
-        privilege: Privilege::Supervisor,
-        sie: false,
-        sepc: old.pc,
-        spp: matches!(old.privilege, Privilege::Supervisor),
-        spie: old.sie,
-        a6: hart as u64,
-        a7: arg,
+    let saved = Saved {
+        sepc: regs.sepc,
+        flags: regs.spp as u64 + 2 * regs.spie as u64,
+        a6: regs.a6,
+        a7: regs.a7,
     };
-    Saved {
-        sepc: old.sepc,
-        flags: old.spp as u64 + 2 * old.spie as u64,
-        a6: old.a6,
-        a7: old.a7,
-    }
+    regs.sepc = regs.pc;
+    regs.spp = matches!(regs.privilege, Privilege::Supervisor);
+    regs.spie = regs.sie;
+    regs.pc = entry;
+    regs.privilege = Privilege::Supervisor;
+    regs.sie = false;
+    regs.a6 = hart as u64;
+    regs.a7 = arg;
+    saved
 }
 
 /// Goes on with what a handler interrupted, and gives back what its delivery wrote over (SBI 3.0,
@@ -64,19 +62,16 @@ pub fn resume(regs: &mut Regs, saved: &Saved)
     requires { saved.now.flags ≤ 3 }
     ensures { regs.new ≡ resumed saved.now regs.old }
 {
-    let before = *regs;
-    *regs = Regs {
-        pc: before.sepc,
-        privilege: if before.spp {
-            Privilege::Supervisor
-        } else {
-            Privilege::User
-        },
-        sie: before.spie,
-        sepc: saved.sepc,
-        spp: saved.flags % 2 == 1,
-        spie: saved.flags / 2 % 2 == 1,
-        a6: saved.a6,
-        a7: saved.a7,
+    regs.pc = regs.sepc;
+    regs.privilege = if regs.spp {
+        Privilege::Supervisor
+    } else {
+        Privilege::User
     };
+    regs.sie = regs.spie;
+    regs.sepc = saved.sepc;
+    regs.spp = saved.flags % 2 == 1;
+    regs.spie = saved.flags / 2 % 2 == 1;
+    regs.a6 = saved.a6;
+    regs.a7 = saved.a7;
 }

@@ -50,6 +50,10 @@ unmarked at t =
       marks = bs;
     }) (set-get_or t.marks (place at t.instances) false)
 
+-- a signal of what is pending already
+pub still_pending : (at : Instance) (t : Events) → is_pending at t ≡ true → signal at t ≡ t
+still_pending at t e = ap (λ b. mark at b t) (sym e) ∙ unmarked at t
+
 kept_in : (at : Instance) (l : Lines) (t : Events) → IsOnBoard at t → length t.each ≡ length t.instances → Serves l t
     → IsKeptIn at t
 kept_in at l t on each s = record { on_board = on; each = each; marks = s.marks }

@@ -9,19 +9,20 @@ ghost use Rattle.sse_base.specs.Contexts.{with_pc};
 ghost use Rattle.sse_base.specs.Words.{load, store, is_word};
 ghost use Rattle.sse_base.specs.Machine.{reach, placed, stack_of};
 ghost use Rattle.sse_base.specs.Choice.{next_for, top_urgency};
-ghost use Rattle.sse_base.specs.Calls.{call, delivered};
+ghost use Rattle.sse_base.specs.Calls.{call, delivered, no_words};
 ghost use Rattle.hart_ctx.specs.Registers.{regs_of, with_regs};
 ghost use Rattle.hart_ctx.specs.Running.{running_in};
+ghost use Rattle.sse_table.specs.Found.{IsPlace};
 ghost use Rattle.sse_target.specs.Lines.{Holds};
 ghost use Rattle.std.specs.Borrow.{sem};
 ghost use Rattle.sbi_sse.specs.Lending.{LendsMemory};
 ghost use Rattle.sse_base.specs.Start.{are_distinct, start_machine};
 
-use crate::parts::{CallNote, note, stacks};
+use crate::parts::{CallNote, stacks};
 use hart_ctx::{Contexts, Memory, Regs, Saved};
 use ras_io::NoMemory;
-use sse_base::{EventDecl, EventId, Function, Instance, MAX_EVENTS, MAX_HARTS, SbiCode};
-use sse_table::Table;
+use sse_base::{EventDecl, EventId, Function, Instance, MAX_EVENTS, MAX_HARTS, Reply, SbiCode};
+use sse_table::{Place, Table};
 use sse_target::{Looks, Targets, picked};
 use std::alloc::Global;
 use std::marker::Model;
@@ -162,12 +163,23 @@ impl Firmware {
     }
 
     /// Makes an instance pending, in whatever state it is; all else stays.
-    #[tactic(auto, using(crate::proofs::Keeps::mark_keeps))]
     pub fn signal(&mut self, at: Instance)
         requires { IsOnBoard at self.old.events }
         ensures { self.new ≡ record self.old { events = signal at self.old.events } }
     {
         let place = self.table.place_of(at);
+        self.signal_at(place);
+    }
+
+    /// The same for an instance that was looked up before. Where one is pending already nothing changes.
+    #[tactic(auto, using(crate::proofs::Keeps::mark_keeps, crate::proofs::Queues::still_pending))]
+    fn signal_at(&mut self, place: Place)
+        requires { IsPlace place self.old.events.instances }
+        ensures { self.new ≡ record self.old { events = signal place.at self.old.events } }
+    {
+        if self.table.is_pending_at(place) {
+            return;
+        }
         self.table.signal_at(place);
         self.targets.renew(&self.table, place);
     }
@@ -249,12 +261,40 @@ impl Firmware {
         ensures harts { self.new.events.harts ≡ self.old.events.harts }
         ensures instances { self.new.events.instances ≡ self.old.events.instances }
     {
+        let mut written = [0; 10];
+        let error = self.answer(hart, eid, fid, args, &mut written);
+        CallNote {
+            reply: Reply { error, value: 0 },
+            written,
+        }
+    }
+
+    /// Answers a call as `call` does, with its code. The words that an accepted write of attributes took are put into
+    /// `written`, which is blank until then.
+    pub fn answer(
+        &mut self,
+        hart: u8,
+        eid: u64,
+        fid: u64,
+        args: [u64; 5],
+        written: &mut [u64; 10],
+    ) -> SbiCode
+        requires hart { hart < self.old.events.harts }
+        requires blank { written.old ≡ no_words }
+        ensures code { result ≡ (call hart eid fid args self.old.stacks (reach hart self.old)).code }
+        ensures written { written.new ≡ (call hart eid fid args self.old.stacks (reach hart self.old)).written }
+        ensures next { self.new ≡ placed hart (call hart eid fid args self.old.stacks (reach hart self.old)).reach
+            self.old }
+        ensures refused { is_success result ≡ false → self.new ≡ self.old }
+        ensures harts { self.new.events.harts ≡ self.old.events.harts }
+        ensures instances { self.new.events.instances ≡ self.old.events.instances }
+    {
         if eid != EXTENSION {
-            return note(SbiCode::NotSupported);
+            return SbiCode::NotSupported;
         }
         match Function::from_number(fid) {
             Some(Function::ReadAttrs) => self.read_attrs(hart, args),
-            Some(Function::WriteAttrs) => self.write_attrs(hart, args),
+            Some(Function::WriteAttrs) => self.write_attrs(hart, args, written),
             Some(Function::Register) => self.register(hart, args),
             Some(Function::Unregister) => self.unregister(hart, args),
             Some(Function::Enable) => self.enable(hart, args),
@@ -263,7 +303,7 @@ impl Firmware {
             Some(Function::Inject) => self.inject(hart, args),
             Some(Function::HartUnmask) => self.unmask(hart),
             Some(Function::HartMask) => self.mask(hart),
-            None => note(SbiCode::NotSupported),
+            None => SbiCode::NotSupported,
         }
     }
 

@@ -2,7 +2,7 @@
 
 ghost use Rattle.std.specs.Prelude.{◌≡◌, ◌≤◌, ◌+◌, ℕ, map, IfOk, true, unwrap_or};
 ghost use Rattle.sse_base.specs.Contexts.{fresh_stack, interrupted};
-ghost use Rattle.sse_base.specs.Calls.{no_words, interrupted_on, find_range, argument_at};
+ghost use Rattle.sse_base.specs.Calls.{interrupted_on, find_range, argument_at};
 ghost use Rattle.sse_base.specs.Words.{are_words};
 ghost use Rattle.hart_ctx.specs.Running.{word_of};
 ghost use Rattle.sbi_sse.specs.Elsewhere.{elsewhere};
@@ -17,21 +17,6 @@ pub struct CallNote {
     pub reply: Reply,
     /// The words that an accepted write of attributes took, in its first places, and 0 elsewhere.
     pub written: [u64; 10],
-}
-
-/// The answer of a call that writes no attributes.
-pub fn note(code: SbiCode) -> CallNote
-    ensures code { result.reply.error ≡ code }
-    ensures value { result.reply.value ≡ 0 }
-    ensures written { result.written ≡ no_words }
-{
-    CallNote {
-        reply: Reply {
-            error: code,
-            value: 0,
-        },
-        written: [0; 10],
-    }
 }
 
 /// A hart at each of these places, on which no handler runs.

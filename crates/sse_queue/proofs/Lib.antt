@@ -2,3 +2,4 @@
 pub mod Before
 pub mod Places
 pub mod InOrder
+pub mod Ends

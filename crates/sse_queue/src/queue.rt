@@ -1,6 +1,7 @@
 //! The queue.
 
-ghost use Rattle.std.specs.Prelude.{◌≡◌, ◌<◌, ◌+◌, ◌-◌, ◌^◌, length, true, false, []};
+ghost use Rattle.std.specs.Prelude.{◌≡◌, ◌<◌, ◌≤◌, ◌+◌, ◌-◌, ◌^◌, length, true, false, []};
+ghost use Rattle.std.specs.List.{insert, remove};
 ghost use Rattle.sse_base.specs.Ids.{id_of};
 ghost use Rattle.sse_queue.specs.Order.{holds, has_id, put_in, without, front, is_in_order};
 
@@ -19,7 +20,58 @@ pub struct Looks {
 /// The events that wait for one hart, the most urgent first: at most one instance of each event of a board.
 #[derive(Drop)]
 pub struct Queue {
-    items: ArrayVec<Waiting, MAX_EVENTS>,
+    items: Row,
+}
+
+/// What waits for one hart, in a row.
+type Row = ArrayVec<Waiting, MAX_EVENTS>;
+
+/// Puts one in where others follow.
+#[inline(never)]
+fn put_between(items: &mut Row, spot: usize, one: Waiting)
+    requires room { length items.old.items < MAX_EVENTS }
+    requires spot { spot ≤ length items.old.items }
+    ensures { items.new.items ≡ insert items.old.items spot one }
+{
+    items.insert(spot, one);
+}
+
+/// Puts one in. Mostly none follows, and the others needn't make room.
+#[inline]
+#[tactic(auto, using(std::proofs::lemmas::List::Edits::insert_end))]
+fn put(items: &mut Row, spot: usize, one: Waiting)
+    requires room { length items.old.items < MAX_EVENTS }
+    requires spot { spot ≤ length items.old.items }
+    ensures { items.new.items ≡ insert items.old.items spot one }
+{
+    if spot == items.len() {
+        items.push(one);
+        return;
+    }
+    put_between(items, spot, one);
+}
+
+/// Takes one out where others follow.
+#[inline(never)]
+fn take_between(items: &mut Row, spot: usize)
+    requires { spot < length items.old.items }
+    ensures { items.new.items ≡ remove items.old.items spot }
+{
+    let _ = items.remove(spot);
+}
+
+/// Takes one out. Mostly none follows, and the others needn't close up.
+#[inline]
+#[tactic(auto, using(crate::proofs::Ends::take_last))]
+fn take(items: &mut Row, spot: usize)
+    requires { spot < length items.old.items }
+    ensures { items.new.items ≡ remove items.old.items spot }
+{
+    if spot == items.len() - 1 {
+        let _ = items.pop();
+        return;
+    }
+    take_between(items, spot);
 }
 
 impl Model for Queue {
@@ -61,6 +113,7 @@ impl Queue {
     }
 
     /// Lets an instance wait with this priority, behind all that are more urgent.
+    #[inline]
     #[tactic(auto, using(crate::proofs::InOrder::put))]
     pub fn insert(&mut self, priority: u32, at: Instance)
         requires room { length self.old < MAX_EVENTS }
@@ -69,7 +122,7 @@ impl Queue {
     {
         let one = Waiting { priority, at };
         let spot = spot_of(one, self.items.as_slice());
-        self.items.insert(spot, one);
+        put(&mut self.items, spot, one);
     }
 
     /// Lets an instance wait no longer; the others keep their order.
@@ -81,13 +134,14 @@ impl Queue {
     }
 
     /// Lets an instance wait no longer, where it does; the others keep their order.
+    #[inline]
     #[tactic(auto, using(crate::proofs::InOrder::left))]
     pub fn leave(&mut self, at: Instance)
         ensures { self.new ≡ without at self.old }
     {
         let spot = standing(at, self.items.as_slice());
         if spot < self.items.len() {
-            let _ = self.items.remove(spot);
+            take(&mut self.items, spot);
         }
     }
 

@@ -4,3 +4,4 @@ pub mod Slots
 pub mod Bits
 pub mod Checks
 pub mod Hints
+pub mod Ranges

@@ -3,3 +3,4 @@ pub mod Start
 pub mod Bits
 pub mod Places
 pub mod Found
+pub mod Ranges

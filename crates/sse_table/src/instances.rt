@@ -6,6 +6,7 @@ ghost use Rattle.sse_base.specs.Ids.{place, instance_of};
 use sse_base::{EventId, Instance};
 
 /// Where an instance stands in a list, or the list's length where it doesn't.
+#[inline(never)]
 #[tactic(auto, unfolding(sse_base::specs::Ids::same_instance))]
 pub fn place(instances: &[Instance], at: Instance) -> usize
     ensures { result ≡ place at instances.now }

@@ -107,6 +107,7 @@ impl Places {
     }
 
     /// Where an instance stands, or how many there are where it doesn't.
+    #[inline(always)]
     pub(crate) fn place(&self, at: Instance) -> usize
         ensures { result ≡ place at self.now }
     {

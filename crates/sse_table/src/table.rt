@@ -93,6 +93,7 @@ impl Table {
     /// The instance that an id means on a hart, and its number. An id above 32 bits or of a reserved class is an
     /// invalid parameter, and another one that isn't on the board is not supported (the order is this project's
     /// own).
+    #[inline(always)]
     #[tactic(auto, unfolding(sse_base::specs::Calls::is_reserved))]
     pub fn look_up(&self, id: u64, hart: u8) -> Result<Place, SbiCode>
         ensures found { MatchResult result (λ p. find_instance id hart self.now ≡ Ok p.at)

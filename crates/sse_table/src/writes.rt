@@ -2,28 +2,16 @@
 
 ghost use Rattle.std.specs.Prelude.{◌≡◌, ◌≤◌, ◌+◌, length};
 ghost use Rattle.sse_base.specs.Calls.{is_never_written, is_shut, is_refused_value, some_attribute, some_word};
+ghost use Rattle.sse_table.specs.Ranges.{reaches};
 
 use sse_base::{AttrRange, Instance, State, attr};
 
-/// Whether an attribute of this event is never written.
-#[tactic(auto, unfolding(sse_base::specs::Calls::is_never_written))]
-fn is_never_written(at: Instance, attr: u8) -> bool
-    ensures { result ≡ is_never_written at attr }
+/// Whether a range has an attribute from `first` to `last`.
+fn reaches(range: AttrRange, first: u8, last: u8) -> bool
+    requires { range.base + range.count ≤ 10 }
+    ensures { result ≡ reaches range.base range.count first last }
 {
-    attr == attr::STATUS
-        || attr == attr::ENTRY_PC
-        || attr == attr::ENTRY_ARG
-        || (attr == attr::PREFERRED_HART && matches!(at, Instance::Local { .. }))
-}
-
-/// Whether an attribute may not be written now.
-#[tactic(auto, unfolding(sse_base::specs::Calls::is_shut))]
-fn is_shut(state: State, running_here: bool, attr: u8) -> bool
-    ensures { result ≡ is_shut state running_here attr }
-{
-    let open = matches!(state, State::Unused | State::Registered);
-    (attr >= attr::PRIORITY && attr <= attr::PREFERRED_HART && !open)
-        || (attr >= attr::INTERRUPTED_SEPC && !running_here)
+    range.count > 0 && range.base <= last && range.base + range.count > first
 }
 
 /// Whether an attribute can't have this value on a board of so many harts.
@@ -41,31 +29,26 @@ fn is_refused_value(harts: u8, attr: u8, value: u64) -> bool
 }
 
 /// Whether an attribute of the range is never written for this event.
-#[tactic(auto, using(crate::proofs::Checks::one_more_attribute))]
+#[tactic(auto, using(crate::proofs::Ranges::never_reached))]
 pub fn some_never_written(at: Instance, range: AttrRange) -> bool
     requires { range.base + range.count ≤ 10 }
     ensures { result ≡ some_attribute (is_never_written at) range.base range.count }
 {
-    for i in 0..range.count {
-        if is_never_written(at, range.base + i) {
-            return true;
-        }
-    }
-    false
+    reaches(range, attr::STATUS, attr::STATUS)
+        || reaches(range, attr::ENTRY_PC, attr::ENTRY_ARG)
+        || (reaches(range, attr::PREFERRED_HART, attr::PREFERRED_HART)
+            && matches!(at, Instance::Local { .. }))
 }
 
 /// Whether an attribute of the range may not be written now.
-#[tactic(auto, using(crate::proofs::Checks::one_more_attribute))]
+#[tactic(auto, using(crate::proofs::Ranges::shut_reached))]
 pub fn some_shut(state: State, running_here: bool, range: AttrRange) -> bool
     requires { range.base + range.count ≤ 10 }
     ensures { result ≡ some_attribute (is_shut state running_here) range.base range.count }
 {
-    for i in 0..range.count {
-        if is_shut(state, running_here, range.base + i) {
-            return true;
-        }
-    }
-    false
+    let open = matches!(state, State::Unused | State::Registered);
+    (reaches(range, attr::PRIORITY, attr::PREFERRED_HART) && !open)
+        || (reaches(range, attr::INTERRUPTED_SEPC, attr::INTERRUPTED_A7) && !running_here)
 }
 
 /// Whether an attribute from `base` on can't have its value.

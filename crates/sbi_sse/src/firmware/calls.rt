@@ -3,83 +3,83 @@
 ghost use Rattle.std.specs.Prelude.{◌≡◌, ◌<◌, ◌≤◌, ◌+◌, ℕ, true, []};
 ghost use Rattle.sse_base.specs.Machine.{reach};
 ghost use Rattle.sse_base.specs.Words.{are_words};
-ghost use Rattle.sse_base.specs.Calls.{function, interrupted_on, reads, write_range};
+ghost use Rattle.sse_base.specs.Calls.{function, interrupted_on, no_words, reads, write_range};
 ghost use Rattle.hart_ctx.specs.Running.{word_of};
 ghost use Rattle.sse_table.specs.Found.{IsPlace};
 ghost use Rattle.sbi_sse.specs.Answered.{Answers};
 
 use crate::firmware::Firmware;
-use crate::parts::{CallNote, elsewhere, find_range, interrupted, interrupted_here, note, nothing};
+use crate::parts::{elsewhere, find_range, interrupted, interrupted_here, nothing};
 use hart_ctx::Saved;
-use sse_base::{AttrRange, Function, Instance, Reply, SbiCode, State};
+use sse_base::{AttrRange, Function, Instance, SbiCode, State};
 use sse_table::Place;
 
 impl Firmware {
     /// Registers an event with where its handler begins and its argument.
     #[tactic(auto, using(crate::proofs::Places::stays))]
-    pub(super) fn register(&mut self, hart: u8, args: [u64; 5]) -> CallNote
+    pub(super) fn register(&mut self, hart: u8, args: [u64; 5]) -> SbiCode
         requires { hart < self.old.events.harts }
-        ensures { Answers hart self.old self.new result (function hart Function.Register args self.old.stacks
+        ensures { Answers hart self.old self.new result no_words (function hart Function.Register args self.old.stacks
             (reach hart self.old)) }
     {
         let place = match self.table.look_up(args[0], hart) {
             Ok(place) => place,
-            Err(code) => return note(code),
+            Err(code) => return code,
         };
-        note(self.table.register_at(place, args[1], args[2]))
+        self.table.register_at(place, args[1], args[2])
     }
 
     /// Makes an event unused.
     #[tactic(auto, using(crate::proofs::Places::stays))]
-    pub(super) fn unregister(&mut self, hart: u8, args: [u64; 5]) -> CallNote
+    pub(super) fn unregister(&mut self, hart: u8, args: [u64; 5]) -> SbiCode
         requires { hart < self.old.events.harts }
-        ensures { Answers hart self.old self.new result (function hart Function.Unregister args self.old.stacks
+        ensures { Answers hart self.old self.new result no_words (function hart Function.Unregister args self.old.stacks
             (reach hart self.old)) }
     {
         let place = match self.table.look_up(args[0], hart) {
             Ok(place) => place,
-            Err(code) => return note(code),
+            Err(code) => return code,
         };
-        note(self.table.unregister_at(place))
+        self.table.unregister_at(place)
     }
 
     /// Enables an event.
     #[tactic(auto, using(crate::proofs::Places::stays))]
-    pub(super) fn enable(&mut self, hart: u8, args: [u64; 5]) -> CallNote
+    pub(super) fn enable(&mut self, hart: u8, args: [u64; 5]) -> SbiCode
         requires { hart < self.old.events.harts }
-        ensures { Answers hart self.old self.new result (function hart Function.Enable args self.old.stacks
+        ensures { Answers hart self.old self.new result no_words (function hart Function.Enable args self.old.stacks
             (reach hart self.old)) }
     {
         let place = match self.table.look_up(args[0], hart) {
             Ok(place) => place,
-            Err(code) => return note(code),
+            Err(code) => return code,
         };
         let code = self.table.enable_at(place);
         self.targets.renew(&self.table, place);
-        note(code)
+        code
     }
 
     /// Disables an event.
     #[tactic(auto, using(crate::proofs::Places::stays))]
-    pub(super) fn disable(&mut self, hart: u8, args: [u64; 5]) -> CallNote
+    pub(super) fn disable(&mut self, hart: u8, args: [u64; 5]) -> SbiCode
         requires { hart < self.old.events.harts }
-        ensures { Answers hart self.old self.new result (function hart Function.Disable args self.old.stacks
+        ensures { Answers hart self.old self.new result no_words (function hart Function.Disable args self.old.stacks
             (reach hart self.old)) }
     {
         let place = match self.table.look_up(args[0], hart) {
             Ok(place) => place,
-            Err(code) => return note(code),
+            Err(code) => return code,
         };
         let code = self.table.disable_at(place);
         self.targets.renew(&self.table, place);
-        note(code)
+        code
     }
 
     /// Completes the newest handler of the hart; where none runs nothing changes.
     #[tactic(auto, using(crate::proofs::Places::stays))]
-    pub(super) fn complete(&mut self, hart: u8) -> CallNote
+    pub(super) fn complete(&mut self, hart: u8) -> SbiCode
         requires { hart < self.old.events.harts }
-        ensures { Answers hart self.old self.new result (function hart Function.Complete [] self.old.stacks
+        ensures { Answers hart self.old self.new result no_words (function hart Function.Complete [] self.old.stacks
             (reach hart self.old)) }
     {
         let stack = &mut self.stacks[hart as usize];
@@ -88,49 +88,52 @@ impl Firmware {
             self.table.set_completed_at(done);
             self.targets.renew(&self.table, done);
         }
-        note(SbiCode::Success)
+        SbiCode::Success
     }
 
     /// Unmasks the hart.
     #[tactic(auto, using(crate::proofs::Places::stays))]
-    pub(super) fn unmask(&mut self, hart: u8) -> CallNote
+    pub(super) fn unmask(&mut self, hart: u8) -> SbiCode
         requires { hart < self.old.events.harts }
-        ensures { Answers hart self.old self.new result (function hart Function.HartUnmask [] self.old.stacks
+        ensures { Answers hart self.old self.new result no_words (function hart Function.HartUnmask [] self.old.stacks
             (reach hart self.old)) }
     {
-        note(self.targets.unmask(&self.table, hart))
+        self.targets.unmask(&self.table, hart)
     }
 
     /// Masks the hart.
     #[tactic(auto, using(crate::proofs::Places::stays))]
-    pub(super) fn mask(&mut self, hart: u8) -> CallNote
+    pub(super) fn mask(&mut self, hart: u8) -> SbiCode
         requires { hart < self.old.events.harts }
-        ensures { Answers hart self.old self.new result (function hart Function.HartMask [] self.old.stacks
+        ensures { Answers hart self.old self.new result no_words (function hart Function.HartMask [] self.old.stacks
             (reach hart self.old)) }
     {
-        note(self.targets.mask(&self.table, hart))
+        self.targets.mask(&self.table, hart)
     }
 
     /// Signals an event, a local one on the hart that is named.
     #[tactic(auto, using(crate::proofs::Places::stays, crate::proofs::Injects::injected))]
-    pub(super) fn inject(&mut self, hart: u8, args: [u64; 5]) -> CallNote
+    pub(super) fn inject(&mut self, hart: u8, args: [u64; 5]) -> SbiCode
         requires { hart < self.old.events.harts }
-        ensures { Answers hart self.old self.new result (function hart Function.Inject args self.old.stacks
+        ensures { Answers hart self.old self.new result no_words (function hart Function.Inject args self.old.stacks
             (reach hart self.old)) }
     {
         let place = match self.table.look_up(args[0], hart) {
             Ok(place) => place,
-            Err(code) => return note(code),
+            Err(code) => return code,
         };
         if !self.table.event_at(place).inject {
-            return note(SbiCode::InvalidParam);
+            return SbiCode::InvalidParam;
         }
         let to = match elsewhere(place.at, args[1], self.table.harts()) {
             Some(to) => to,
-            None => return note(SbiCode::InvalidParam),
+            None => return SbiCode::InvalidParam,
         };
-        self.signal(to);
-        note(SbiCode::Success)
+        match place.at {
+            Instance::Global { .. } => self.signal_at(place),
+            Instance::Local { .. } => self.signal(to),
+        }
+        SbiCode::Success
     }
 
     /// The INTERRUPTED attributes of an instance that may run: of a local one on its own hart.
@@ -171,14 +174,23 @@ impl Firmware {
         ]
     }
 
-    /// Writes words to the attributes of a range, all or none.
+    /// Writes words to the attributes of a range, all or none, and notes them where they are taken.
     #[tactic(auto, using(crate::proofs::Places::stays))]
-    fn write_range(&mut self, hart: u8, place: Place, range: AttrRange, lo: u64) -> CallNote
+    fn write_range(
+        &mut self,
+        hart: u8,
+        place: Place,
+        range: AttrRange,
+        lo: u64,
+        written: &mut [u64; 10],
+    ) -> SbiCode
         requires hart { hart < self.old.events.harts }
         requires place { IsPlace place self.old.events.instances }
         requires range { range.base + range.count ≤ 10 }
         requires words { are_words lo range.count ≡ true }
-        ensures { Answers hart self.old self.new result (write_range lo place.at (reach hart self.old) range) }
+        requires blank { written.old ≡ no_words }
+        ensures { Answers hart self.old self.new result written.new
+            (write_range lo place.at (reach hart self.old) range) }
     {
         let words = self.memory.read_words(lo, range.count);
         let values = &words[..range.count as usize];
@@ -187,55 +199,56 @@ impl Firmware {
             .table
             .check_write_at(place, range, values, stack.has(place.at));
         if !matches!(code, SbiCode::Success) {
-            return note(code);
+            return code;
         }
         self.table.set_attrs_at(place, range.base, values);
         stack.write_interrupted(range.base, values, place.at);
-        CallNote {
-            reply: Reply {
-                error: SbiCode::Success,
-                value: 0,
-            },
-            written: words,
-        }
+        *written = words;
+        SbiCode::Success
     }
 
     /// Puts the attributes of an event into memory.
     #[tactic(auto, using(crate::proofs::Places::stays, crate::proofs::Gathered::range_read))]
-    pub(super) fn read_attrs(&mut self, hart: u8, args: [u64; 5]) -> CallNote
+    pub(super) fn read_attrs(&mut self, hart: u8, args: [u64; 5]) -> SbiCode
         requires { hart < self.old.events.harts }
-        ensures { Answers hart self.old self.new result (function hart Function.ReadAttrs args self.old.stacks
+        ensures { Answers hart self.old self.new result no_words (function hart Function.ReadAttrs args self.old.stacks
             (reach hart self.old)) }
     {
         let place = match self.table.look_up(args[0], hart) {
             Ok(place) => place,
-            Err(code) => return note(code),
+            Err(code) => return code,
         };
         let range = match find_range(args) {
             Ok(range) => range,
-            Err(code) => return note(code),
+            Err(code) => return code,
         };
         let words = self.attributes(place);
         let from = range.base as usize;
         let to = from + range.count as usize;
         self.memory.write_words(args[3], &words[from..to]);
-        note(SbiCode::Success)
+        SbiCode::Success
     }
 
-    /// Writes words in memory to the attributes of an event, all or none.
+    /// Writes words in memory to the attributes of an event, all or none, and notes them where they are taken.
     #[tactic(auto, using(crate::proofs::Places::stays))]
-    pub(super) fn write_attrs(&mut self, hart: u8, args: [u64; 5]) -> CallNote
-        requires { hart < self.old.events.harts }
-        ensures { Answers hart self.old self.new result (function hart Function.WriteAttrs args self.old.stacks
-            (reach hart self.old)) }
+    pub(super) fn write_attrs(
+        &mut self,
+        hart: u8,
+        args: [u64; 5],
+        written: &mut [u64; 10],
+    ) -> SbiCode
+        requires hart { hart < self.old.events.harts }
+        requires blank { written.old ≡ no_words }
+        ensures { Answers hart self.old self.new result written.new (function hart Function.WriteAttrs args
+            self.old.stacks (reach hart self.old)) }
     {
         let place = match self.table.look_up(args[0], hart) {
             Ok(place) => place,
-            Err(code) => return note(code),
+            Err(code) => return code,
         };
         match find_range(args) {
-            Ok(range) => self.write_range(hart, place, range, args[3]),
-            Err(code) => note(code),
+            Ok(range) => self.write_range(hart, place, range, args[3], written),
+            Err(code) => code,
         }
     }
 }

@@ -7,8 +7,7 @@ use Rattle.sbi_sse.proofs.firmware.Firmware.mask.Goals as goal
 pub returns : goal.returns
 returns c =
     record {
-      code = search rules;
-      value = search rules;
+      code_is = search rules;
       written = search rules;
       next = grind (arith, common_steps, stays c.self.inside.stacks.items c.args.hart);
       refused = search rules;
