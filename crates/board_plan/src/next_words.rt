@@ -7,9 +7,10 @@ ghost use Rattle.ras_text.specs.Lines.{text_of, sink_of, SameSink};
 ghost use Rattle.board_plan.specs.Notes.{after_spaces};
 
 use ras_io::Sink;
-use ras_text::{Line, put_dec, put_hex, put_signed, put_word};
+use ras_text::{Line, put_byte, put_dec, put_hex, put_signed, put_word};
 
 /// Appends a space and a word to the line under way, which has to have room for them.
+#[inline]
 pub fn put_next_word<K: Sink>(line: &mut Line<'_, K>, word: &[u8])
     requires { length (text_of line.old) + length word.now + 1 ≤ 512 }
     ensures text { text_of line.new ≡ text_of line.old ++ 32 ∷ word.now }
@@ -17,11 +18,12 @@ pub fn put_next_word<K: Sink>(line: &mut Line<'_, K>, word: &[u8])
     ensures sink { sink_of line.new ≡ sink_of line.old }
     ensures same_sink { SameSink line.new line.old }
 {
-    put_word(line, b" ");
+    put_byte(line, b' ');
     put_word(line, word);
 }
 
 /// Appends a space and a number in decimal to the line under way, which has to have room for 21 bytes.
+#[inline]
 pub fn put_next_dec<K: Sink>(line: &mut Line<'_, K>, n: u64)
     requires { length (text_of line.old) + 21 ≤ 512 }
     ensures text { text_of line.new ≡ text_of line.old ++ 32 ∷ decimal n }
@@ -29,11 +31,12 @@ pub fn put_next_dec<K: Sink>(line: &mut Line<'_, K>, n: u64)
     ensures sink { sink_of line.new ≡ sink_of line.old }
     ensures same_sink { SameSink line.new line.old }
 {
-    put_word(line, b" ");
+    put_byte(line, b' ');
     put_dec(line, n);
 }
 
 /// Appends a space and a signed number to the line under way, which has to have room for 21 bytes.
+#[inline]
 pub fn put_next_signed<K: Sink>(line: &mut Line<'_, K>, n: i64)
     requires { length (text_of line.old) + 21 ≤ 512 }
     ensures text { text_of line.new ≡ text_of line.old ++ 32 ∷ signed_decimal n }
@@ -41,11 +44,12 @@ pub fn put_next_signed<K: Sink>(line: &mut Line<'_, K>, n: i64)
     ensures sink { sink_of line.new ≡ sink_of line.old }
     ensures same_sink { SameSink line.new line.old }
 {
-    put_word(line, b" ");
+    put_byte(line, b' ');
     put_signed(line, n);
 }
 
 /// Appends a space and a number in hexadecimal to the line under way, which has to have room for 19 bytes.
+#[inline]
 pub fn put_next_hex<K: Sink>(line: &mut Line<'_, K>, n: u64)
     requires { length (text_of line.old) + 19 ≤ 512 }
     ensures text { text_of line.new ≡ text_of line.old ++ 32 ∷ hexadecimal n }
@@ -53,7 +57,7 @@ pub fn put_next_hex<K: Sink>(line: &mut Line<'_, K>, n: u64)
     ensures sink { sink_of line.new ≡ sink_of line.old }
     ensures same_sink { SameSink line.new line.old }
 {
-    put_word(line, b" ");
+    put_byte(line, b' ');
     put_hex(line, n);
 }
 

@@ -100,6 +100,7 @@ fn slot_word(was: Option<bool>) -> &'static [u8]
 }
 
 /// `NAME BANK RECORD`
+#[inline]
 fn put_record<K: Sink>(line: &mut Line<'_, K>, name: &[u8], bank: u8, rec: u8)
     requires { length (text_of line.old) + length name.now + 42 ≤ 512 }
     ensures text { text_of line.new
@@ -114,6 +115,7 @@ fn put_record<K: Sink>(line: &mut Line<'_, K>, name: &[u8], bank: u8, rec: u8)
 }
 
 /// `NAME BANK RECORD WORD`
+#[inline]
 fn put_phase<K: Sink>(line: &mut Line<'_, K>, name: &[u8], bank: u8, rec: u8, word: &[u8])
     requires { length (text_of line.old) + length name.now + length word.now + 43 ≤ 512 }
     ensures text { text_of line.new
@@ -127,6 +129,7 @@ fn put_phase<K: Sink>(line: &mut Line<'_, K>, name: &[u8], bank: u8, rec: u8, wo
 }
 
 /// `NAME VALUE`, the value in hexadecimal.
+#[inline]
 fn put_hex_note<K: Sink>(line: &mut Line<'_, K>, name: &[u8], value: u64)
     requires { length (text_of line.old) + length name.now + 19 ≤ 512 }
     ensures text { text_of line.new ≡ text_of line.old ++ join_with_byte 32 (name.now ∷ hexadecimal value ∷ []) }
@@ -139,6 +142,7 @@ fn put_hex_note<K: Sink>(line: &mut Line<'_, K>, name: &[u8], value: u64)
 }
 
 /// `NAME ADDR VALUE`, both in hexadecimal.
+#[inline]
 fn put_word_note<K: Sink>(line: &mut Line<'_, K>, name: &[u8], addr: u64, value: u64)
     requires { length (text_of line.old) + length name.now + 38 ≤ 512 }
     ensures text { text_of line.new
@@ -151,7 +155,26 @@ fn put_word_note<K: Sink>(line: &mut Line<'_, K>, name: &[u8], addr: u64, value:
     put_next_hex(line, value);
 }
 
+/// ` REG`
+fn put_reg<K: Sink>(line: &mut Line<'_, K>, reg: Reg)
+    requires { length (text_of line.old) + 5 ≤ 512 }
+    ensures text { text_of line.new ≡ text_of line.old ++ 32 ∷ reg_word reg }
+    ensures room { length (text_of line.new) ≤ length (text_of line.old) + 5 }
+    ensures sink { sink_of line.new ≡ sink_of line.old }
+    ensures same_sink { SameSink line.new line.old }
+{
+    match reg {
+        Reg::A6 => put_word(line, b" a6"),
+        Reg::A7 => put_word(line, b" a7"),
+        Reg::Sepc => put_word(line, b" sepc"),
+        Reg::Spp => put_word(line, b" spp"),
+        Reg::Spie => put_word(line, b" spie"),
+        Reg::Sie => put_word(line, b" sie"),
+    }
+}
+
 /// `NAME REG VALUE`, the value in hexadecimal.
+#[inline]
 fn put_reg_note<K: Sink>(line: &mut Line<'_, K>, name: &[u8], reg: Reg, value: u64)
     requires { length (text_of line.old) + length name.now + 24 ≤ 512 }
     ensures text { text_of line.new
@@ -161,11 +184,12 @@ fn put_reg_note<K: Sink>(line: &mut Line<'_, K>, name: &[u8], reg: Reg, value: u
     ensures same_sink { SameSink line.new line.old }
 {
     put_word(line, name);
-    put_next_word(line, reg_word(reg));
+    put_reg(line, reg);
     put_next_hex(line, value);
 }
 
 /// `NAME NUMBER WORD`
+#[inline]
 fn put_word_of<K: Sink>(line: &mut Line<'_, K>, name: &[u8], number: u8, word: &[u8])
     requires { length (text_of line.old) + length name.now + length word.now + 22 ≤ 512 }
     ensures text { text_of line.new
@@ -379,57 +403,55 @@ pub fn note_text<K: Sink>(line: &mut Line<'_, K>, note: &StepNote)
     ensures sink { sink_of line.new ≡ sink_of line.old }
     ensures same_sink { SameSink line.new line.old }
 {
-    match *note {
+    match note {
         StepNote::Idle => {}
-        StepNote::Scan { bank, rec } => put_scan(line, bank, rec),
-        StepNote::Claim { bank, rec } => put_record(line, b"claim", bank, rec),
+        StepNote::Scan { bank, rec } => put_scan(line, *bank, *rec),
+        StepNote::Claim { bank, rec } => put_record(line, b"claim", *bank, *rec),
         StepNote::Read {
             bank,
             rec,
             register,
-        } => put_phase(line, b"read", bank, rec, register_word(register)),
+        } => put_phase(line, b"read", *bank, *rec, register_word(*register)),
         StepNote::Check { bank, rec, torn } => {
             put_phase(
                 line,
                 b"check",
-                bank,
-                rec,
-                choice_word(b"torn", b"published", torn),
+                *bank,
+                *rec,
+                choice_word(b"torn", b"published", *torn),
             )
         }
-        StepNote::Invalidate { bank, rec, cleared } => put_invalidate(line, bank, rec, cleared),
-        StepNote::Signal { bank, level, id } => put_signal(line, bank, level, id),
-        StepNote::Deliver { id } => put_hex_note(line, b"deliver", u64::from(id)),
+        StepNote::Invalidate { bank, rec, cleared } => put_invalidate(line, *bank, *rec, *cleared),
+        StepNote::Signal { bank, level, id } => put_signal(line, *bank, *level, *id),
+        StepNote::Deliver { id } => put_hex_note(line, b"deliver", u64::from(*id)),
         StepNote::Call {
             eid,
             fid,
             args,
             code,
             written,
-        } => put_call(line, eid, fid, &args, code, &written),
+        } => put_call(line, *eid, *fid, args, *code, written),
         StepNote::Nop => put_word(line, b"nop"),
-        StepNote::Set { reg, value } => put_reg_note(line, b"set", reg, value),
-        StepNote::Load { reg, value } => put_reg_note(line, b"load", reg, value),
-        StepNote::Save { addr, value } => put_word_note(line, b"save", addr, value),
-        StepNote::Store { addr, value } => put_word_note(line, b"store", addr, value),
-        StepNote::Inc { addr, value } => put_word_note(line, b"inc", addr, value),
-        StepNote::Jump { pc } => put_hex_note(line, b"jump", pc),
-        StepNote::Jlt { taken } => {
-            put_word(line, b"jlt");
-            put_next_word(line, choice_word(b"yes", b"no", taken));
-        }
+        StepNote::Set { reg, value } => put_reg_note(line, b"set", *reg, *value),
+        StepNote::Load { reg, value } => put_reg_note(line, b"load", *reg, *value),
+        StepNote::Save { addr, value } => put_word_note(line, b"save", *addr, *value),
+        StepNote::Store { addr, value } => put_word_note(line, b"store", *addr, *value),
+        StepNote::Inc { addr, value } => put_word_note(line, b"inc", *addr, *value),
+        StepNote::Jump { pc } => put_hex_note(line, b"jump", *pc),
+        StepNote::Jlt { taken: true } => put_word(line, b"jlt yes"),
+        StepNote::Jlt { taken: false } => put_word(line, b"jlt no"),
         StepNote::Sret => put_word(line, b"sret"),
-        StepNote::Ack { bank, was } => put_word_of(line, b"ack", bank, slot_word(was)),
+        StepNote::Ack { bank, was } => put_word_of(line, b"ack", *bank, slot_word(*was)),
         StepNote::Unplug { reporter, was } => {
-            put_word_of(line, b"unplug", reporter, choice_word(b"yes", b"no", was))
+            put_word_of(line, b"unplug", *reporter, choice_word(b"yes", b"no", *was))
         }
         StepNote::Illegal => put_word(line, b"illegal"),
         StepNote::Fault => put_word(line, b"fault"),
-        StepNote::Error { report, logged } => put_error(line, &report, logged),
+        StepNote::Error { report, logged } => put_error(line, report, *logged),
         StepNote::Raise {
             id,
             hart,
             signalled,
-        } => put_raise(line, id, hart, signalled),
+        } => put_raise(line, *id, *hart, *signalled),
     }
 }

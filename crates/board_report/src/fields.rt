@@ -10,7 +10,7 @@ ghost use Rattle.board_plan.specs.Text.{field, bit_text, privilege_text, context
 use board_plan::Counts;
 use hart_ctx::Regs;
 use ras_io::Sink;
-use ras_text::{Line, put_dec, put_hex, put_signed, put_word};
+use ras_text::{Line, put_byte, put_dec, put_hex, put_signed, put_word};
 use sse_base::Privilege;
 
 /// ` NAME `
@@ -21,9 +21,9 @@ fn put_name<K: Sink>(line: &mut Line<'_, K>, name: &[u8])
     ensures sink { sink_of line.new ≡ sink_of line.old }
     ensures same_sink { SameSink line.new line.old }
 {
-    put_word(line, b" ");
+    put_byte(line, b' ');
     put_word(line, name);
-    put_word(line, b" ");
+    put_byte(line, b' ');
 }
 
 /// ` NAME VALUE`, the value in decimal.

@@ -13,7 +13,7 @@ use crate::fields::{
 use board_plan::Counts;
 use hart_ctx::Saved;
 use ras_io::Sink;
-use ras_text::{Line, put_dec, put_hex, put_word};
+use ras_text::{Line, put_byte, put_dec, put_hex, put_word};
 use sbi_sse::Firmware;
 use sse_base::{Instance, Slot, State};
 
@@ -59,7 +59,7 @@ pub(crate) fn put_frame<K: Sink>(
 {
     put_word(line, b"frame ");
     put_dec(line, u64::from(hart));
-    put_word(line, b" ");
+    put_byte(line, b' ');
     put_dec(line, number);
     put_hex_field(line, b"event", u64::from(at.id().0));
     put_hex_field(line, b"sepc", saved.sepc);
@@ -127,6 +127,6 @@ pub(crate) fn put_memory_word<K: Sink>(line: &mut Line<'_, K>, addr: u64, word: 
 {
     put_word(line, b"word ");
     put_hex(line, addr);
-    put_word(line, b" ");
+    put_byte(line, b' ');
     put_hex(line, word);
 }

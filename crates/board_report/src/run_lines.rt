@@ -15,7 +15,7 @@ ghost use Rattle.board_plan.specs.Text.{
 use crate::fields::put_dec_field;
 use board_plan::{Fates, Plan, Step, StepNote, note_text};
 use ras_io::Sink;
-use ras_text::{Line, put_dec, put_word};
+use ras_text::{Line, put_byte, put_dec, put_word};
 
 /// What was made, on which board.
 #[tactic(auto, unfolding(board_plan::specs::Text::head_line))]
@@ -55,6 +55,7 @@ pub(crate) fn put_fates<K: Sink>(line: &mut Line<'_, K>, fates: &Fates)
 }
 
 /// An actor: `h` or `r`, and its number.
+#[inline]
 fn put_actor<K: Sink>(line: &mut Line<'_, K>, step: Step)
     requires { length (text_of line.old) + 21 ≤ 512 }
     ensures text { text_of line.new ≡ text_of line.old ++ actor_text step }
@@ -64,17 +65,18 @@ fn put_actor<K: Sink>(line: &mut Line<'_, K>, step: Step)
 {
     match step {
         Step::Hart(hart) => {
-            put_word(line, b"h");
+            put_byte(line, b'h');
             put_dec(line, u64::from(hart));
         }
         Step::Reporter(reporter) => {
-            put_word(line, b"r");
+            put_byte(line, b'r');
             put_dec(line, u64::from(reporter));
         }
     }
 }
 
 /// An entry of a schedule.
+#[inline]
 fn put_entry<K: Sink>(line: &mut Line<'_, K>, step: Step)
     requires { length (text_of line.old) + 22 ≤ 512 }
     ensures text { text_of line.new ≡ text_of line.old ++ entry_text step }
@@ -82,7 +84,7 @@ fn put_entry<K: Sink>(line: &mut Line<'_, K>, step: Step)
     ensures sink { sink_of line.new ≡ sink_of line.old }
     ensures same_sink { SameSink line.new line.old }
 {
-    put_word(line, b" ");
+    put_byte(line, b' ');
     put_actor(line, step);
 }
 
@@ -113,8 +115,8 @@ pub(crate) fn put_step<K: Sink>(line: &mut Line<'_, K>, number: u64, by: Step, n
     ensures same_sink { SameSink line.new line.old }
 {
     put_dec(line, number);
-    put_word(line, b" ");
+    put_byte(line, b' ');
     put_actor(line, by);
-    put_word(line, b" ");
+    put_byte(line, b' ');
     note_text(line, note);
 }

@@ -1,13 +1,13 @@
 -- A number that is read digit by digit.
-use Rattle.std.proofs.Common.{◌≡◌, ℕ, suc, ◌+◌, ◌*◌, ◌^◌, ◌<◌, ◌≤◌, Bool, true, false, ◌&&◌, List, [], ◌∷◌, length, Option, Some, None, refl, sym, ap, ◌∙◌, arith, ltb, if◌then◌else◌, lit<, drop, get_or}
+use Rattle.std.proofs.Common.{◌≡◌, ℕ, suc, ◌+◌, ◌*◌, ◌^◌, ◌<◌, ◌≤◌, Bool, true, false, ◌&&◌, List, [], ◌∷◌, length, Option, Some, None, refl, sym, ap, ◌∙◌, arith, add-one, ltb, if◌then◌else◌, nat_eq, lit<, lit≤, drop, get_or}
 use Rattle.std.proofs.Math.Seq.{drop-cons}
 use Rattle.std.proofs.Math.ListN.{drop_of_length-le}
 use Rattle.std.proofs.lemmas.Bool.{lt-ltb, ltb-true, ltb-false, le-ltb}
-use Rattle.std.proofs.Math.Nat.{mul-le-mul_left}
+use Rattle.std.proofs.Math.Nat.{mul-le-mul_left, pow-suc, pow-le-pow_right}
 use Rattle.std.specs.Char.{digit_value}
 use Rattle.std.specs.List.{list_all}
 use Rattle.std.specs.Str.Parse.{digits_value_after}
-use Rattle.ras_text.specs.Numbers.{is_digit_of, value_in}
+use Rattle.ras_text.specs.Numbers.{is_digit_of, value_in, number}
 
 -- the number after further digits, where each stays below 2 ^ 64
 abbrev pub onto : ℕ → ℕ → List ℕ → Option ℕ
@@ -95,3 +95,43 @@ module _ (base : ℕ) where
 
   pub ended : (n i : ℕ) (ds : List ℕ) → length ds ≤ i → onto base n (drop i ds) ≡ Some n
   ended n i ds end = ap (onto base n) (drop_of_length-le ds end)
+
+  pub onto_digit : (n i v : ℕ) (ds : List ℕ) → i < length ds → v ≡ digit_value (get_or ds i 0) → v < base
+      → n * base + v < 2 ^ 64 → onto base n (drop i ds) ≡ onto base (n * base + v) (drop (i + 1) ds)
+  onto_digit n i v ds here is digit small =
+      let d = get_or ds i 0 in
+      let m = n * base + digit_value d in
+      let same : m ≡ n * base + v = ap (λ x. n * base + x) (sym is) in
+      at_place n i ds here
+      ∙ ap (λ a. if a && ltb m (2 ^ 64) then onto base m (drop (suc i) ds)
+      else None) (lt-ltb (digit_value d) base (omega arith))
+      ∙ ap (λ b. if b then onto base m (drop (suc i) ds) else None) (lt-ltb m (2 ^ 64) (omega arith))
+      ∙ ap (λ x. onto base x (drop (suc i) ds)) same
+      ∙ ap (λ j. onto base (n * base + v) (drop j ds)) (sym (add-one i))
+
+-- ---- numbers of one digit, and of a few
+
+pub one_digit_is : (d v : ℕ) → v ≡ digit_value d → v < 10 → value_in 10 (d ∷ []) ≡ Some v
+one_digit_is d v is digit =
+    let same : 0 * 10 + v ≡ v = omega arith in
+    value_is 10 (lit≤ tt) (d ∷ []) (omega arith)
+    ∙ onto_digit 10 0 0 v (d ∷ []) (omega arith) is digit (omega arith)
+    ∙ ap (λ (n : ℕ). Some n) same
+
+pub no_digit_is : (d : ℕ) → 10 ≤ digit_value d → value_in 10 (d ∷ []) ≡ None
+no_digit_is d far = value_is 10 (lit≤ tt) (d ∷ []) (omega arith) ∙ not_digit 10 0 0 (d ∷ []) (omega arith) far
+
+-- no prefix stands before one byte
+pub short_number : (d : ℕ) → number (d ∷ []) ≡ value_in 10 (d ∷ [])
+unfolding number
+short_number d =
+    ap (λ b. if b then value_in 16 (drop 2 (d ∷ [])) else value_in 10 (d ∷ [])) (and_false (nat_eq 48 d))
+
+pub one_digit_more : (n d i : ℕ) → n < 10 ^ i → d < 10 → n * 10 + d < 10 ^ (i + 1)
+one_digit_more n d i small digit =
+    let more : 10 ^ (i + 1) ≡ 10 ^ i * 10 = rw add-one (pow-suc 10 i) in omega arith
+
+pub nineteen_digits : (n d i : ℕ) → n < 10 ^ i → i < 19 → d < 10 → n * 10 + d < 2 ^ 64
+nineteen_digits n d i small few digit =
+    let within : i ≤ 18 = omega arith in
+    let top : 10 ^ i ≤ 10 ^ 18 = pow-le-pow_right (lit< tt) within in omega arith
