@@ -7,6 +7,7 @@ pub mod Taken
 pub mod Kept
 pub mod Boards
 pub mod Texts
+pub mod Heads
 pub mod WordsAgain
 pub mod LinesAgain
 pub mod BanksAgain

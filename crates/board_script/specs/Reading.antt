@@ -1,6 +1,7 @@
 -- What the parts of the reader answer, against the rules of scripts in the board book. This project's own.
-use Rattle.std.specs.Prelude.{◌≡◌, ℕ, ◌<◌, List, length, map, slice_get, Some, Result, Ok, Err}
+use Rattle.std.specs.Prelude.{◌≡◌, ℕ, ◌<◌, ◌==◌, List, [], ◌∷◌, length, map, filter, slice_get, Some, Result, Ok, Err, if◌then◌else◌}
 use Rattle.std.specs.Borrow.{Bor}
+use Rattle.ras_text.specs.Pieces.{is_word, without_return}
 use Rattle.board_plan.specs.declared.notes.Step.{Step}
 use Rattle.board_plan.specs.declared.notes.Step.TheVariants.{Hart, Reporter}
 use Rattle.board_plan.specs.declared.plan.LineFault.{LineFault}
@@ -14,6 +15,19 @@ use Rattle.board_script.specs.declared.fault.ScriptError.TheVariants.{BadLine, N
 -- what words hold
 abbrev pub texts : List (Bor (List ℕ)) → List (List ℕ)
 texts ws = map (λ w. w.now) ws
+
+-- a text up to its first newline
+abbrev pub before_newline : List ℕ → List ℕ
+before_newline [] = []
+before_newline (b ∷ bs) = if b == 10 then [] else b ∷ before_newline bs
+
+-- the first line of a text
+unfoldable pub line_of : List ℕ → List ℕ
+line_of text = without_return (before_newline text)
+
+-- a part of a line as its words: one, or none where it is empty
+abbrev pub as_word : List ℕ → List (List ℕ)
+as_word part = filter is_word (part ∷ [])
 
 -- a failure is the line's refusal, or that memory is wanting
 abbrev pub Fails : {Y : Type 0} → ReadFault → Result Y LineFault → Type 0

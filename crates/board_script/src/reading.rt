@@ -1,7 +1,7 @@
 //! Reads a script line by line.
 
-ghost use Rattle.std.specs.Prelude.{◌≡◌, ◌<◌, ◌≤◌, ◌+◌, ◌^◌, [], length, IfOk, IfErr, OnOk, Ok};
-ghost use Rattle.ras_text.specs.Pieces.{words, lines};
+ghost use Rattle.std.specs.Prelude.{◌≡◌, ◌<◌, ◌≤◌, ◌+◌, ◌^◌, [], ◌∷◌, ◌++◌, length, IfOk, IfErr, OnOk, Ok};
+ghost use Rattle.ras_text.specs.Pieces.{words, lines, is_blank, without_return};
 ghost use Rattle.board_plan.specs.Script.{
   statement,
   is_comment,
@@ -15,14 +15,13 @@ ghost use Rattle.board_plan.specs.Script.{
 ghost use Rattle.board_plan.specs.Plans.{IsPlan, AreReports};
 ghost use Rattle.board_plan.specs.Run.{lists};
 ghost use Rattle.move_laws.specs.Moves.{GathersByVersion};
-ghost use Rattle.board_script.specs.Reading.{texts, Moves, IsFault, Passes, EntriesAreOfBoard};
+ghost use Rattle.board_script.specs.Reading.{texts, line_of, as_word, Moves, IsFault, Passes, EntriesAreOfBoard};
 
 use crate::fault::{ReadFault, ScriptError};
 use crate::half::{Half, board};
 use crate::words::is;
 use board_plan::{LineFault, Plan};
 use ras_io::NoMemory;
-use ras_text::{first_line, words};
 use std::alloc::Global;
 
 impl Half {
@@ -108,15 +107,60 @@ fn is_passed(words: &[&[u8]]) -> bool
     is_comment(first)
 }
 
-/// Puts the words of a line into a vector, in the place of what it had.
-fn gather<'a>(into: &mut Vec<&'a [u8]>, line: &'a [u8]) -> Result<(), NoMemory>
-    ensures ok { OnOk result (texts into.new.items ≡ words line.now) }
+/// Whether the byte parts words.
+fn is_blank(byte: u8) -> bool
+    ensures { result ≡ is_blank byte }
+{
+    byte == b' ' || byte == b'\t'
+}
+
+/// A part of a line without a carriage return at its end.
+fn without_return(part: &[u8]) -> &[u8]
+    ensures { result.now ≡ without_return part.now }
+{
+    match part {
+        [word @ .., b'\r'] => word,
+        _ => part,
+    }
+}
+
+/// Adds a part of a line to its words, unless it is empty.
+fn add_word<'a>(into: &mut Vec<&'a [u8]>, part: &'a [u8]) -> Result<(), NoMemory>
+    ensures ok { OnOk result (texts into.new.items ≡ texts into.old.items ++ as_word part.now) }
+{
+    match part {
+        [] => Ok(()),
+        _ => into.push(part).map_err(|_| NoMemory),
+    }
+}
+
+/// Puts the words of a text's first line into a vector, in the place of what it had, and hands out the text after that
+/// line.
+fn gather<'a>(into: &mut Vec<&'a [u8]>, text: &'a [u8]) -> Result<&'a [u8], NoMemory>
+    requires { 0 < length text.now }
+    ensures words { OnOk result (texts into.new.items ≡ words (line_of text.now)) }
+    ensures lines { IfOk result (λ rest. lines text.now ≡ line_of text.now ∷ lines rest.now) }
+    ensures shorter { IfOk result (λ rest. length rest.now < length text.now) }
 {
     into.clear();
-    for word in words(line) {
-        into.push(word).map_err(|_| NoMemory)?;
+    let mut start = 0;
+    for (i, byte) in text.iter().enumerate() {
+        // no byte above the space ends a word
+        if *byte > b' ' {
+            continue;
+        }
+        if *byte == b'\n' {
+            add_word(into, without_return(&text[start..i]))?;
+            return Ok(&text[i + 1..]);
+        }
+        if !is_blank(*byte) {
+            continue;
+        }
+        add_word(into, &text[start..i])?;
+        start = i + 1;
     }
-    Ok(())
+    add_word(into, without_return(&text[start..]))?;
+    Ok(&text[text.len()..])
 }
 
 /// What the first statement makes, the number of the line after it, and the text from there on.
@@ -142,8 +186,7 @@ fn begin<'a>(
     let mut line = 1;
     let mut rest = text;
     while !rest.is_empty() {
-        let (next, after) = first_line(rest);
-        gather(into, next)?;
+        let after = gather(into, rest)?;
         if !is_passed(into.as_slice()) {
             return match board(alloc, into.as_slice()) {
                 Ok(half) => Ok(Begun {
@@ -177,8 +220,7 @@ fn follow<'a>(begun: Begun<'a>, into: &mut Vec<&'a [u8]>) -> Result<Plan, Script
         mut rest,
     } = begun;
     while !rest.is_empty() {
-        let (next, after) = first_line(rest);
-        gather(into, next)?;
+        let after = gather(into, rest)?;
         half.take_line(line, into.as_slice())?;
         line += 1;
         rest = after;
