@@ -60,18 +60,17 @@ fn no_acts(alloc: Global, reporters: &[Reporter]) -> Result<Vec<Kept<Act>>, NoMe
 }
 
 impl Brief {
-    /// A board of a plan before its first step. It takes all memory that its steps need. `NoMemory` comes only where no
+    /// A board of a plan before its first step. It takes over the plan, and takes all memory that its steps need. `NoMemory` comes only where no
     /// room was found for it.
-    pub fn new(alloc: Global, plan: &Plan) -> Result<Brief, NoMemory>
-        requires plan { IsPlan plan.now }
-        requires reports { AreListsReports plan.now }
-        ensures fresh { IfOk result (λ b. b ≡ fresh plan.now) }
+    pub fn new(alloc: Global, plan: Plan) -> Result<Brief, NoMemory>
+        requires plan { IsPlan plan }
+        requires reports { AreListsReports plan }
+        ensures fresh { IfOk result (λ b. b ≡ fresh plan) }
         ensures safe { IfOk result (λ b. IsSafe b) }
     {
-        let parts = Parts::new(alloc, plan)?;
+        let parts = Parts::new(alloc, &plan)?;
         let acts = no_acts(alloc, plan.reporters.as_slice())?;
-        let log = Log::new(alloc, most_steps(plan))?;
-        let plan = plan.copy(alloc)?;
+        let log = Log::new(alloc, most_steps(&plan))?;
         Ok(Brief {
             plan,
             parts,

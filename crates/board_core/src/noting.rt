@@ -23,6 +23,7 @@ impl Board {
         ensures fresh { IfOk result (λ b. b ≡ fresh plan.now) }
         ensures safe { IfOk result (λ b. IsSafe b) }
     {
+        let plan = plan.copy(alloc)?;
         let brief = Brief::new(alloc, plan)?;
         let notes = Kept::new(alloc, brief.places())?;
         Ok(Board { brief, notes })

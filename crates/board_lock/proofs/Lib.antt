@@ -5,6 +5,7 @@ pub mod Given
 pub mod Hires
 pub mod Idling
 pub mod Moving
+pub mod Noting
 pub mod Rounding
 pub mod Shelves
 pub mod Staying

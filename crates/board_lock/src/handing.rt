@@ -2,13 +2,14 @@
 
 ghost use Rattle.std.specs.Prelude.{◌≡◌, IfOk};
 ghost use Rattle.board_plan.specs.Step.{reporter_step};
-ghost use Rattle.board_core.specs.Played.{IsReport, after_reporter, note_of, state_of};
+ghost use Rattle.board_core.specs.Played.{IsReport, after_reporter, note_if, note_of, state_of};
 ghost use Rattle.board_lock.specs.Hand.{act_at_hand, fresh_hand, given, handed_act, moved, reporter_hand_after, rewound};
+ghost use Rattle.board_lock.specs.Trying.{is_step};
 ghost use Rattle.board_lock.specs.Views.{hand_in_hands, left_or_none};
 
 use crate::hands::Hands;
-use board_core::Board;
-use board_plan::StepNote;
+use crate::lent::Lent;
+use board_parts::Outcome;
 use ras_device::{Act, ErrorDevice};
 use ras_io::NoMemory;
 use std::alloc::Global;
@@ -71,24 +72,28 @@ impl<D: ErrorDevice> Hands<D> {
         Some(act)
     }
 
-    /// One try of the reporter on a board.
-    pub(crate) fn turn(&mut self, board: &mut Board) -> StepNote
-        ensures board { board.new ≡ after_reporter self.old.reporter
-            (handed_act (hand_in_hands D.left self.old) board.old self.old.reporter) board.old }
+    /// One try of the reporter on a board: it says whether that made a step, and then the outcome has its note.
+    pub(crate) fn turn<B: Lent>(&mut self, board: &mut B, outcome: &mut Outcome) -> bool
+        ensures board { B.played board.new ≡ after_reporter self.old.reporter
+            (handed_act (hand_in_hands D.left self.old) (B.played board.old) self.old.reporter) (B.played board.old) }
         ensures hand { hand_in_hands D.left self.new
-            ≡ reporter_hand_after (hand_in_hands D.left self.old) board.old self.old.reporter }
-        ensures note { result ≡ note_of (reporter_step self.old.reporter board.old.plan
-            (handed_act (hand_in_hands D.left self.old) board.old self.old.reporter) (state_of board.old)) }
+            ≡ reporter_hand_after (hand_in_hands D.left self.old) (B.played board.old) self.old.reporter }
+        ensures note { note_if result outcome.new.note ≡ note_of (reporter_step self.old.reporter
+            (B.played board.old).plan
+            (handed_act (hand_in_hands D.left self.old) (B.played board.old) self.old.reporter)
+            (state_of (B.played board.old))) }
+        ensures made { result ≡ is_step (note_if result outcome.new.note) }
     {
         let reporter = self.reporter;
-        if !board.wants(reporter) {
-            return StepNote::Idle;
+        let brief = board.brief();
+        if !brief.wants(reporter) {
+            return false;
         }
-        if board.is_list(reporter) {
-            let act = board.listed(reporter);
-            return board.reporter_step(reporter, act);
+        if brief.is_list(reporter) {
+            let act = brief.listed(reporter);
+            return board.step_reporter(reporter, act, outcome);
         }
         let act = self.next_act();
-        board.reporter_step(reporter, act)
+        board.step_reporter(reporter, act, outcome)
     }
 }

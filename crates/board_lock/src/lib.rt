@@ -5,6 +5,7 @@ mod gate;
 mod handing;
 mod hands;
 mod hiring;
+mod lent;
 mod lock;
 mod replaying;
 mod running;
@@ -12,6 +13,7 @@ mod worker;
 
 pub use gate::{Gate, OpenGate};
 pub use hiring::{hire, rewind_all};
+pub use lent::Lent;
 pub use lock::{Shared, rounds, work};
 pub use replaying::replay;
 pub use running::run_plan;

@@ -10,8 +10,10 @@ ghost use Rattle.board_lock.specs.Replaying.{Agrees, Replays, is_same};
 ghost use Rattle.board_lock.specs.Trying.{Goes, Went, WentOver, is_step};
 ghost use Rattle.board_lock.specs.Workers.{hand_of};
 
+use crate::lent::Lent;
 use crate::worker::{Actor, Worker};
 use board_core::Board;
+use board_parts::Outcome;
 use board_plan::{Step, StepNote};
 use ras_device::ErrorDevice;
 
@@ -43,75 +45,121 @@ fn place<D: ErrorDevice>(workers: &[Worker<D>], actor: Step) -> Option<usize>
 }
 
 /// Has the worker of an actor try a step, and says whether it made one. An actor without a worker is passed over.
-fn try_as<D: ErrorDevice>(workers: &mut [Worker<D>], actor: Step, board: &mut Board) -> bool
-    ensures { Went board.old (map (hand_of D.left) workers.old) (actor ∷ []) result board.new
+fn try_as<D: ErrorDevice, B: Lent>(
+    workers: &mut [Worker<D>],
+    actor: Step,
+    board: &mut B,
+    outcome: &mut Outcome,
+) -> bool
+    ensures { Went (B.played board.old) (map (hand_of D.left) workers.old) (actor ∷ []) result (B.played board.new)
         (map (hand_of D.left) workers.new) }
 {
-    let _steps = board.steps();
-    let _harts = board.firmware().harts();
+    let brief = board.brief();
+    let _steps = brief.steps();
+    let _harts = brief.firmware().harts();
     let Some(at) = place(workers, actor) else {
         return false;
     };
     let worker = &mut workers[at];
-    let note = worker.turn(board);
-    is_step(&note)
+    worker.try_step(board, outcome)
 }
 
 /// Tries each hart of the board once, and says whether one of them made a step.
-fn try_harts<D: ErrorDevice>(workers: &mut [Worker<D>], board: &mut Board) -> bool
-    ensures { Went board.old (map (hand_of D.left) workers.old) (map Hart (range_with_len 0 board.old.plan.harts))
-        result board.new (map (hand_of D.left) workers.new) }
+fn try_harts<D: ErrorDevice, B: Lent>(
+    workers: &mut [Worker<D>],
+    board: &mut B,
+    outcome: &mut Outcome,
+) -> bool
+    ensures { Went (B.played board.old) (map (hand_of D.left) workers.old)
+        (map Hart (range_with_len 0 (B.played board.old).plan.harts)) result (B.played board.new)
+        (map (hand_of D.left) workers.new) }
 {
     let mut made = false;
-    for hart in 0..board.plan().harts {
-        let moved = try_as(workers, Step::Hart(hart), board);
+    for hart in 0..board.brief().plan().harts {
+        let moved = try_as(workers, Step::Hart(hart), board, outcome);
         made = made || moved;
     }
     made
 }
 
 /// Tries each reporter of the board once, and says whether one of them made a step.
-fn try_reporters<D: ErrorDevice>(workers: &mut [Worker<D>], board: &mut Board) -> bool
-    ensures { Went board.old (map (hand_of D.left) workers.old)
-        (map Reporter (range_with_len 0 (length board.old.plan.reporters))) result board.new
+fn try_reporters<D: ErrorDevice, B: Lent>(
+    workers: &mut [Worker<D>],
+    board: &mut B,
+    outcome: &mut Outcome,
+) -> bool
+    ensures { Went (B.played board.old) (map (hand_of D.left) workers.old)
+        (map Reporter (range_with_len 0 (length (B.played board.old).plan.reporters))) result (B.played board.new)
         (map (hand_of D.left) workers.new) }
 {
-    let _steps = board.steps();
+    let brief = board.brief();
+    let _steps = brief.steps();
     let mut made = false;
-    for reporter in 0..board.plan().reporters.as_slice().len() as u8 {
-        let moved = try_as(workers, Step::Reporter(reporter), board);
+    for reporter in 0..brief.plan().reporters.as_slice().len() as u8 {
+        let moved = try_as(workers, Step::Reporter(reporter), board, outcome);
         made = made || moved;
     }
     made
 }
 
 /// A round: one try of each hart and then one of each reporter. It says whether one of them made a step.
-fn try_round<D: ErrorDevice>(workers: &mut [Worker<D>], board: &mut Board) -> bool
-    ensures went { Went board.old (map (hand_of D.left) workers.old) (round board.old.plan) result board.new
-        (map (hand_of D.left) workers.new) }
-    ensures few { length board.new.steps ≤ most_steps board.new.plan }
+fn try_round<D: ErrorDevice, B: Lent>(
+    workers: &mut [Worker<D>],
+    board: &mut B,
+    outcome: &mut Outcome,
+) -> bool
+    ensures went { Went (B.played board.old) (map (hand_of D.left) workers.old) (round (B.played board.old).plan) result
+        (B.played board.new) (map (hand_of D.left) workers.new) }
+    ensures few { length (B.played board.new).steps ≤ most_steps (B.played board.new).plan }
 {
-    let harts = try_harts(workers, board);
-    let reporters = try_reporters(workers, board);
-    let _steps = board.steps();
+    let harts = try_harts(workers, board, outcome);
+    let reporters = try_reporters(workers, board, outcome);
+    let _steps = board.brief().steps();
     harts || reporters
 }
 
 /// Tries these steps, one after another.
-fn try_steps<D: ErrorDevice>(steps: &[Step], workers: &mut [Worker<D>], board: &mut Board)
-    ensures { Goes board.old (map (hand_of D.left) workers.old) steps.now board.new
+fn try_steps<D: ErrorDevice, B: Lent>(
+    steps: &[Step],
+    workers: &mut [Worker<D>],
+    board: &mut B,
+    outcome: &mut Outcome,
+)
+    ensures { Goes (B.played board.old) (map (hand_of D.left) workers.old) steps.now (B.played board.new)
         (map (hand_of D.left) workers.new) }
 {
     for step in steps {
-        try_as(workers, *step, board);
+        try_as(workers, *step, board, outcome);
     }
 }
 
 /// Tries rounds up to the first in which nobody made a step.
-fn try_rounds<D: ErrorDevice>(workers: &mut [Worker<D>], board: &mut Board)
-    ensures { WentOver board.old (map (hand_of D.left) workers.old) board.new (map (hand_of D.left) workers.new) }
+fn try_rounds<D: ErrorDevice, B: Lent>(
+    workers: &mut [Worker<D>],
+    board: &mut B,
+    outcome: &mut Outcome,
+)
+    ensures { WentOver (B.played board.old) (map (hand_of D.left) workers.old) (B.played board.new)
+        (map (hand_of D.left) workers.new) }
 {
-    while try_round(workers, board) {}
+    while try_round(workers, board, outcome) {}
+}
+
+/// As `replay`, on any board that workers can be lent.
+pub(crate) fn replay_on<D: ErrorDevice, B: Lent>(
+    steps: &[Step],
+    workers: &mut [Worker<D>],
+    board: &mut B,
+)
+    ensures tries { (acts : ℕ → List Act) → Agrees acts (B.played board.old) (map (hand_of D.left) workers.old)
+        → Replays acts (B.played board.old) steps.now (B.played board.new) }
+    ensures agrees { (acts : ℕ → List Act) → Agrees acts (B.played board.old) (map (hand_of D.left) workers.old)
+        → Agrees acts (B.played board.new) (map (hand_of D.left) workers.new) }
+{
+    let mut outcome = Outcome::new();
+    try_steps(steps, workers, board, &mut outcome);
+    try_rounds(workers, board, &mut outcome);
+    let _harts = board.brief().firmware().harts();
 }
 
 /// Tries the steps of a list on a board, one after another, each by the worker of its actor, and then rounds of one try
@@ -124,7 +172,5 @@ pub fn replay<D: ErrorDevice>(steps: &[Step], workers: &mut [Worker<D>], board: 
     ensures agrees { (acts : ℕ → List Act) → Agrees acts board.old (map (hand_of D.left) workers.old)
         → Agrees acts board.new (map (hand_of D.left) workers.new) }
 {
-    try_steps(steps, workers, board);
-    try_rounds(workers, board);
-    let _harts = board.firmware().harts();
+    replay_on(steps, workers, board)
 }

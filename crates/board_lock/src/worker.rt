@@ -3,13 +3,16 @@
 ghost use Rattle.std.specs.Prelude.{◌≡◌, ◌↔◌, ◌+◌, ◌<◌, IfOk};
 ghost use Rattle.board_plan.specs.declared.notes.StepNote.TheVariants.{Idle};
 ghost use Rattle.board_plan.specs.Step.{hart_step};
-ghost use Rattle.board_core.specs.Played.{after_hart, note_of, state_of};
+ghost use Rattle.board_core.specs.Played.{after_hart, note_if, note_of, state_of};
 ghost use Rattle.board_lock.specs.Hand.{IsIdle, board_after, fresh_hand, given, hand_after, hart_hand, rewound, turn_note};
+ghost use Rattle.board_lock.specs.Trying.{is_step};
 ghost use Rattle.board_lock.specs.Views.{left_or_none};
 ghost use Rattle.board_lock.specs.Workers.{hand_of};
 
 use crate::hands::Hands;
+use crate::lent::Lent;
 use board_core::Board;
+use board_parts::Outcome;
 use board_plan::{Step, StepNote};
 use ras_device::{Act, ErrorDevice};
 use ras_io::NoMemory;
@@ -32,16 +35,27 @@ pub struct Worker<D> {
     pub(crate) made: bool,
 }
 
-/// The step of a hart on a board; a hart that the board hasn't has none.
-fn hart_turn(hart: u8, board: &mut Board) -> StepNote
-    ensures board { board.new ≡ after_hart hart board.old }
-    ensures note { result ≡ note_of (hart_step hart board.old.plan (state_of board.old)) }
+/// One try of a hart on a board: it says whether that made a step, and then the outcome has its note. A hart that the
+/// board hasn't makes none.
+fn hart_turn<B: Lent>(hart: u8, board: &mut B, outcome: &mut Outcome) -> bool
+    ensures board { B.played board.new ≡ after_hart hart (B.played board.old) }
+    ensures note { note_if result outcome.new.note
+        ≡ note_of (hart_step hart (B.played board.old).plan (state_of (B.played board.old))) }
+    ensures made { result ≡ is_step (note_if result outcome.new.note) }
 {
-    let _harts = board.firmware().harts();
-    if hart >= board.plan().harts {
-        return StepNote::Idle;
+    let brief = board.brief();
+    let _harts = brief.firmware().harts();
+    if hart >= brief.plan().harts {
+        return false;
     }
-    board.hart_step(hart)
+    board.step_hart(hart, outcome)
+}
+
+/// The note of a try: that of the step that it made, or `Idle`.
+fn note_if(made: bool, note: StepNote) -> StepNote
+    ensures { result ≡ note_if made note }
+{
+    if made { note } else { StepNote::Idle }
 }
 
 impl<D: ErrorDevice> Worker<D> {
@@ -97,16 +111,20 @@ impl<D: ErrorDevice> Worker<D> {
         }
     }
 
-    /// One try of the worker's actor on a board, as `turn`.
-    fn try_step(&mut self, board: &mut Board) -> StepNote
-        ensures board { board.new ≡ board_after (hand_of D.left self.old).actor (hand_of D.left self.old) board.old }
+    /// One try of the worker's actor on a board, as `turn`: it says whether that made a step, and then the outcome has
+    /// its note.
+    pub(crate) fn try_step<B: Lent>(&mut self, board: &mut B, outcome: &mut Outcome) -> bool
+        ensures board { B.played board.new
+            ≡ board_after (hand_of D.left self.old).actor (hand_of D.left self.old) (B.played board.old) }
         ensures hand { hand_of D.left self.new
-            ≡ hand_after (hand_of D.left self.old).actor (hand_of D.left self.old) board.old }
-        ensures note { result ≡ turn_note (hand_of D.left self.old).actor (hand_of D.left self.old) board.old }
+            ≡ hand_after (hand_of D.left self.old).actor (hand_of D.left self.old) (B.played board.old) }
+        ensures note { note_if result outcome.new.note
+            ≡ turn_note (hand_of D.left self.old).actor (hand_of D.left self.old) (B.played board.old) }
+        ensures made { result ≡ is_step (note_if result outcome.new.note) }
     {
         match &mut self.actor {
-            Actor::Hart(hart) => hart_turn(*hart, board),
-            Actor::Reporter(hands) => hands.turn(board),
+            Actor::Hart(hart) => hart_turn(*hart, board, outcome),
+            Actor::Reporter(hands) => hands.turn(board, outcome),
         }
     }
 
@@ -124,6 +142,8 @@ impl<D: ErrorDevice> Worker<D> {
             ↔ IsIdle (hand_of D.left self.old).actor (hand_of D.left self.old) board.old }
         ensures still { result ≡ Idle → (board.new ≡ board.old) × (hand_of D.left self.new ≡ hand_of D.left self.old) }
     {
-        self.try_step(board)
+        let mut outcome = Outcome::new();
+        let made = self.try_step(board, &mut outcome);
+        note_if(made, outcome.note)
     }
 }

@@ -37,15 +37,15 @@ struct Traced {
 /// written.
 fn play_told<K: Sink, D: ErrorDevice>(
     alloc: Global,
-    plan: &Plan,
+    plan: Plan,
     devices: Vec<D>,
     tracer: &mut Tracer<'_, K>,
 ) -> Result<Traced, NoMemory>
-    requires plan { IsPlan plan.now }
-    requires reports { AreListsReports plan.now }
+    requires plan { IsPlan plan }
+    requires reports { AreListsReports plan }
     requires first { number_of tracer.old ≡ 1 }
     requires going { outcome_of tracer.old ≡ Ok tt }
-    ensures run { IfOk result (λ t. IsRunOf plan.now (lists_of D.left devices.items) t.board) }
+    ensures run { IfOk result (λ t. IsRunOf plan (lists_of D.left devices.items) t.board) }
     ensures bytes { IfOk result (λ t. Puts (K.written (sink_of tracer.old)) (K.written (sink_of tracer.new)) t.written
         (trace_bytes (own_run t.board))) }
     ensures cause { IfOk result (λ t. HasCause (K.faults (sink_of tracer.old)) (K.faults (sink_of tracer.new))
@@ -63,13 +63,13 @@ fn play_told<K: Sink, D: ErrorDevice>(
 /// written.
 fn play_traced<K: Sink, D: ErrorDevice>(
     alloc: Global,
-    plan: &Plan,
+    plan: Plan,
     devices: Vec<D>,
     sink: &mut K,
 ) -> Result<Traced, NoMemory>
-    requires plan { IsPlan plan.now }
-    requires reports { AreListsReports plan.now }
-    ensures run { IfOk result (λ t. IsRunOf plan.now (lists_of D.left devices.items) t.board) }
+    requires plan { IsPlan plan }
+    requires reports { AreListsReports plan }
+    ensures run { IfOk result (λ t. IsRunOf plan (lists_of D.left devices.items) t.board) }
     ensures bytes { IfOk result (λ t. Puts (K.written sink.old) (K.written sink.new) t.written
         (trace_bytes (own_run t.board))) }
     ensures cause { IfOk result (λ t. HasCause (K.faults sink.old) (K.faults sink.new) t.written) }
@@ -83,13 +83,13 @@ fn play_traced<K: Sink, D: ErrorDevice>(
 /// if no write failed.
 fn write_traced<K: Sink, D: ErrorDevice>(
     alloc: Global,
-    plan: &Plan,
+    plan: Plan,
     devices: Vec<D>,
     sink: &mut K,
 ) -> Status
-    requires plan { IsPlan plan.now }
-    requires reports { AreListsReports plan.now }
-    ensures wrote { Wrote (Command.Play Shown.Traced) (lists_of D.left devices.items) plan.now (K.written sink.old)
+    requires plan { IsPlan plan }
+    requires reports { AreListsReports plan }
+    ensures wrote { Wrote (Command.Play Shown.Traced) (lists_of D.left devices.items) plan (K.written sink.old)
         (K.written sink.new) result }
     ensures fault { result ≡ Status.WriteFault → Rose (K.faults sink.old) (K.faults sink.new) }
     ensures kept { is_write_fault result ≡ false → K.faults sink.new ≡ K.faults sink.old }
@@ -130,13 +130,13 @@ fn is_traced(what: Shown) -> bool
 fn write_play<K: Sink, D: ErrorDevice>(
     alloc: Global,
     what: Shown,
-    plan: &Plan,
+    plan: Plan,
     devices: Vec<D>,
     sink: &mut K,
 ) -> Status
-    requires plan { IsPlan plan.now }
-    requires reports { AreListsReports plan.now }
-    ensures wrote { Wrote (Command.Play what) (lists_of D.left devices.items) plan.now (K.written sink.old)
+    requires plan { IsPlan plan }
+    requires reports { AreListsReports plan }
+    ensures wrote { Wrote (Command.Play what) (lists_of D.left devices.items) plan (K.written sink.old)
         (K.written sink.new) result }
     ensures fault { result ≡ Status.WriteFault → Rose (K.faults sink.old) (K.faults sink.new) }
     ensures kept { is_write_fault result ≡ false → K.faults sink.new ≡ K.faults sink.old }
@@ -183,8 +183,8 @@ pub(crate) fn write_output<K: Sink, D: ErrorDevice>(
     ensures silent { is_silent result ≡ true → sink.new ≡ sink.old }
 {
     match command {
-        Command::Play(what) => write_play(alloc, what, &plan, devices, sink),
-        Command::Load(_) => write_play(alloc, Shown::Short, &plan, devices, sink),
+        Command::Play(what) => write_play(alloc, what, plan, devices, sink),
+        Command::Load(_) => write_play(alloc, Shown::Short, plan, devices, sink),
         Command::Move => write_move(plan, sink),
     }
 }

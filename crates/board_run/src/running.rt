@@ -21,7 +21,7 @@ ghost use Rattle.board_run.specs.Run.{WritesRun, WritesRunFront, WroteRun, is_ru
 use crate::status::Status;
 use board_lock::{Gate, run_plan};
 use board_plan::{LineFault, Plan};
-use board_report::report;
+use board_report::report_brief;
 use board_script::{ScriptError, read};
 use ras_device::ErrorDevice;
 use ras_io::{ReadAllError, Sink, Source, read_all};
@@ -46,14 +46,14 @@ fn is_run(words: &[&str]) -> bool
 fn write_run<R: Threads + Wait + Sync, K: Sink, G: Gate + Sync, D: ErrorDevice>(
     rt: &R,
     alloc: Global,
-    plan: &Plan,
+    plan: Plan,
     sink: &mut K,
     devices: Vec<D>,
     gate: &G,
 ) -> Status
-    requires plan { IsPlan plan.now }
-    requires reports { AreListsReports plan.now }
-    ensures wrote { WroteRun (left_in D.left devices.items) plan.now (K.written sink.old) (K.written sink.new) result }
+    requires plan { IsPlan plan }
+    requires reports { AreListsReports plan }
+    ensures wrote { WroteRun (left_in D.left devices.items) plan (K.written sink.old) (K.written sink.new) result }
     ensures fault { result ≡ Status.WriteFault → Rose (K.faults sink.old) (K.faults sink.new) }
     ensures kept { is_write_fault result ≡ false → K.faults sink.new ≡ K.faults sink.old }
     ensures silent { is_silent result ≡ true → sink.new ≡ sink.old }
@@ -61,7 +61,7 @@ fn write_run<R: Threads + Wait + Sync, K: Sink, G: Gate + Sync, D: ErrorDevice>(
     let Ok(board) = run_plan(rt, alloc, plan, devices, gate) else {
         return Status::NoMemory;
     };
-    match report(&board, false, sink) {
+    match report_brief(&board, false, sink) {
         Ok(()) => Status::Ok,
         Err(_) => Status::WriteFault,
     }
@@ -106,15 +106,16 @@ fn run_with<R: Threads + Wait + Sync, S: Source, K: Sink, G: Gate + Sync, D: Err
         Err(ScriptError::BadLine { line, kind }) => return Status::BadScript { line, kind },
         Err(ScriptError::NoMemory) => return Status::NoMemory,
     };
-    write_run(rt, alloc, &plan, sink, devices, gate)
+    write_run(rt, alloc, plan, sink, devices, gate)
 }
 
-/// Reads a whole script from the source, runs it with a worker for each hart and reporter, all of them beside one
-/// another on one board behind a lock, and writes the full report of that run to the sink, each line in one write. The
-/// one command is the word `run`. The script's schedule is ignored: the schedule lines of the report say in which order
-/// the steps were made, one that the lock kept. A reporter that names device K has the acts of place K in `devices`;
-/// one whose device isn't there has no acts. The gate is told before each hold of the lock. It waits for the board's
-/// lock alone, and its promise holds if it returns.
+/// Runs a script in threads, where the words are the one word `run`, and writes the full report of that run to the
+/// sink, each line in one write. The script is the whole text of the source. Each hart and each reporter has a worker
+/// in a thread of its own; all of them step on one board, which a lock gives to one at a time, and the gate hears of
+/// each try before the lock is taken. The lock decides the order of the steps, and the report's schedule lines give it;
+/// a schedule in the script itself counts for nothing. Reporters that name a device K are given the acts of place K in
+/// `devices`, and none where nothing stands there. Nothing is waited for but the board's lock, and all that is promised
+/// holds once this call returns.
 ///
 /// The answers, in the order in which they are looked for: Usage, ReadFault, TooLong, NoMemory, BadScript, NoMemory
 /// again, WriteFault. The rules are this project's own.

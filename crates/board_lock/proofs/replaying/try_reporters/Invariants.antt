@@ -8,6 +8,7 @@ use Rattle.board_lock.proofs.replaying.try_reporters.Given as goal
 
 abbrev pub invariant-loop-reporter : goal.invariant-loop-reporter
 invariant-loop-reporter g l = record {
-  went : Went l.fn.board (map (hand_of g.D.ErrorDevice.left) l.fn.workers)
-      (map Reporter (range_with_len 0 l.reporter)) l.made l.board (map (hand_of g.D.ErrorDevice.left) l.workers);
+  went : Went (g.B.Lent.played l.fn.board) (map (hand_of g.D.ErrorDevice.left) l.fn.workers)
+      (map Reporter (range_with_len 0 l.reporter)) l.made (g.B.Lent.played l.board)
+      (map (hand_of g.D.ErrorDevice.left) l.workers);
 }

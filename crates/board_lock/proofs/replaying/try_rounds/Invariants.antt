@@ -7,9 +7,10 @@ use Rattle.board_lock.proofs.replaying.try_rounds.Given as goal
 
 abbrev pub invariant-loop : goal.invariant-loop
 invariant-loop g l = record {
-  busy : WentBusy l.fn.board (map (hand_of g.D.ErrorDevice.left) l.fn.workers) l.board
+  busy : WentBusy (g.B.Lent.played l.fn.board) (map (hand_of g.D.ErrorDevice.left) l.fn.workers)
+      (g.B.Lent.played l.board)
       (map (hand_of g.D.ErrorDevice.left) l.workers);
 }
 
 abbrev pub decreases-loop : goal.decreases-loop
-decreases-loop g l = most_steps l.board.plan - length l.board.steps
+decreases-loop g l = most_steps (g.B.Lent.played l.board).plan - length (g.B.Lent.played l.board).steps

@@ -6,6 +6,7 @@ use Rattle.board_lock.proofs.replaying.try_steps.Given as goal
 
 abbrev pub invariant-loop-step : goal.invariant-loop-step
 invariant-loop-step g l = record {
-  goes : Goes l.fn.board (map (hand_of g.D.ErrorDevice.left) l.fn.workers) (take l.step-index l.steps) l.board
+  goes : Goes (g.B.Lent.played l.fn.board) (map (hand_of g.D.ErrorDevice.left) l.fn.workers) (take l.step-index l.steps)
+      (g.B.Lent.played l.board)
       (map (hand_of g.D.ErrorDevice.left) l.workers);
 }

@@ -7,8 +7,8 @@ use Rattle.board_run.proofs.outputs.write_play.Goals as goal
 
 pub returns-clause-wrote : goal.returns-clause-wrote
 returns-clause-wrote g c =
-    play_wrote c.args.what c.args.plan.now (lists_of g.D.ErrorDevice.left c.args.devices.items) c.in-Ok.board _ _
-    c.write_shown.result c.requires.plan (are_reports c.args.plan.now
+    play_wrote c.args.what c.args.plan (lists_of g.D.ErrorDevice.left c.args.devices.items) c.in-Ok.board _ _
+    c.write_shown.result c.requires.plan (are_reports c.args.plan
     (lists_of g.D.ErrorDevice.left c.args.devices.items) c.requires.reports
     (each_reports g.D.ErrorDevice.left c.args.devices.items)) c.in-Ok.ensures.run
     (c.write_shown.ensures.wrote (sym c.is_traced.ensures ∙ c.if-is_traced.false))
