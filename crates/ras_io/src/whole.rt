@@ -26,7 +26,7 @@ pub enum ReadAllError {
 pub const MAX_INPUT: usize = 50_331_648;
 
 // the most that one call of `read` is asked for
-const PIECE: usize = 4096;
+const PIECE: usize = 16_384;
 
 /// Reads `src` to its end, at most `max` bytes. `ReadFault`: a read failed, which the count of faults
 /// tells. `TooLong`: there were more than `max` bytes, and `max` + 1 of them were taken. `NoMemory`: no
