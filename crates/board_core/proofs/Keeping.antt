@@ -197,7 +197,7 @@ used_on r k a b d there used makes =
         ∙ sym (ap length (acts_same r a b there) ∙ length-append (acts_of b r) (a ∷ []) ∙ one (length (acts_of b r)))
 
 -- the next act of a list is the one behind the first so many
-one_taken : (xs all : List Act) (a : Act) → xs ≡ take (length xs) all → slice_get all (length xs) ≡ Some a
+pub one_taken : (xs all : List Act) (a : Act) → xs ≡ take (length xs) all → slice_get all (length xs) ≡ Some a
     → xs ++ a ∷ [] ≡ take (length (xs ++ a ∷ [])) all
 one_taken xs all a is next =
     let low = slice_get_within all (length xs) a next in
@@ -207,7 +207,7 @@ one_taken xs all a is next =
     ∙ sym (take-suc all (length xs) a low) ∙ ap (λ n. take n all) size
 
 -- what is listed is the item of the plan's list
-listed_is : (b : Played) (r : ℕ) (p : plan_reporter.Reporter) → slice_get b.plan.reporters r ≡ Some p
+pub listed_is : (b : Played) (r : ℕ) (p : plan_reporter.Reporter) → slice_get b.plan.reporters r ≡ Some p
     → is_none p.device ≡ true → listed b r ≡ slice_get p.acts (acts_made r (state_of b))
 listed_is b r p there is =
     ap (λ (o : Option plan_reporter.Reporter). listed_for o (acts_made r (state_of b))) there

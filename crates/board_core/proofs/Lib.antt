@@ -3,6 +3,7 @@ pub mod Early
 pub mod Going
 pub mod Keeping
 pub mod Onward
+pub mod OwnActs
 pub mod Spent
 pub mod Steps
 pub mod Texts

@@ -1,14 +1,14 @@
 -- From what the steps of the parts say to what a board without notes keeps.
-use Rattle.std.proofs.Common.{◌≡◌, ℕ, suc, ◌<◌, ◌≤◌, Bool, true, false, List, [], ◌∷◌, ◌++◌, map, length, get_or, set, slice_get, Option, Some, None, Bor, is_some, refl, sym, ap, ◌∙◌, subst, arith}
+use Rattle.std.proofs.Common.{◌≡◌, ℕ, suc, ◌<◌, ◌≤◌, Bool, true, false, List, [], ◌∷◌, ◌++◌, length, get_or, set, slice_get, Option, Some, None, Bor, is_some, refl, sym, ap, ◌∙◌, subst, arith}
 use Rattle.std.specs.List.{HoldsAt}
 use Rattle.std.specs.Option.{MatchOption, option_copied, option_map}
-use Rattle.std.proofs.Math.Seq.{map-set_same}
-use Rattle.std.proofs.lemmas.List.{length-map, map-set}
-use Rattle.std.proofs.lemmas.Option.{get_or_from_slice_get, none-some, same_Some, slice_get-map, slice_get_read}
+use Rattle.std.proofs.lemmas.List.{length-map, length-set}
+use Rattle.std.proofs.lemmas.Option.{get_or_from_slice_get, none-some, same_Some, slice_get_read}
 use Rattle.ras_device.specs.declared.act.Act.{Act}
 use Rattle.ras_device.specs.declared.act.Act.TheVariants as act
 use Rattle.reri_fields.specs.declared.report.Report.{Report}
 use Rattle.reri_fields.specs.Drain.{BankState}
+use Rattle.reri_bank.proofs.Stands.{get_there}
 use Rattle.sse_base.specs.Machine.{Machine}
 use Rattle.board_bank.specs.Standing.{BankParts, StandsFor}
 use Rattle.board_plan.specs.declared.notes.Step.{Step}
@@ -29,17 +29,19 @@ use Rattle.board_fates.proofs.Runs.{hart_is_next, reporter_is_next}
 use Rattle.board_parts.specs.declared.outcome.Outcome.{Outcome}
 use Rattle.board_parts.specs.declared.parts.Parts.{Parts}
 use Rattle.board_parts.specs.Came.{Steps, came, outcome_of}
-use Rattle.board_parts.specs.Shows.{AreEarly, Shows, limits}
-use Rattle.board_core.specs.declared.kept.Kept.{Kept}
+use Rattle.board_parts.specs.Shows.{AreEarly, Shows}
 use Rattle.board_core.specs.declared.log.Log.{Log}
+use Rattle.board_core.specs.declared.made.Made.{Made}
 use Rattle.board_core.specs.declared.brief.Brief.TheInside.{Inside}
-use Rattle.board_core.specs.Inside.{IsBrief, acts_in, played, rooms_in}
-use Rattle.board_core.specs.Played.{IsReport, Played, AreListsReports, acts_of, after_act, after_hart, after_hart_step, after_reporter, fresh, is_list, listed, note_of, own_run, state_of, with_act, with_step}
+use Rattle.board_core.specs.Inside.{IsBrief, played}
+use Rattle.board_core.specs.OwnActs.{Suits, HasAdded, HasPlace as HasActPlace, IsNew, Paired, acts_by, acts_in}
+use Rattle.board_core.specs.Played.{IsReport, Played, AreListsReports, acts_of, after_act, after_hart, after_hart_step, after_reporter, fresh, has_list, is_list, listed, note_of, own_run, state_of, with_act, with_step}
 use Rattle.board_core.specs.Reached.{IsReached, Keeps}
 use Rattle.board_core.specs.Rooms.{HasRoom, HasSameRoom}
 use Rattle.board_core.proofs.Early.{hart_makes, reporter_makes}
 use Rattle.board_core.proofs.Going.{gone_on}
-use Rattle.board_core.proofs.Keeping.{keeps_fresh, keeps_hart, keeps_reporter}
+use Rattle.board_core.proofs.Keeping.{keeps_fresh, keeps_hart, keeps_reporter, listed_is}
+use Rattle.board_core.proofs.OwnActs.{IsListsNext, acts_at, acts_set, added_suits, added_is, fresh_acts, has_place, limit_within, paired_at, paired_many, paired_on, paired_set}
 use Rattle.board_core.proofs.Spent.{few_steps, reached_hart, reached_reporter}
 use Rattle.board_core.proofs.Steps.{hart_goes_on, reporter_goes_on}
 use Rattle.board_core.proofs.Texts.{hart_has_text, reporter_has_text}
@@ -79,15 +81,19 @@ pub fresh_notes : (plan : Plan) → (own_run (fresh plan)).notes ≡ []
 unfolding ran
 fresh_notes plan = refl
 
-abbrev pub no_act : List Act
-no_act = []
+pub fresh_is : (y : Inside) (plan : Plan) → y.plan ≡ plan → Paired IsNew plan.reporters y.acts.items
+    → y.log.steps.items.items ≡ [] → played y ≡ fresh plan
+fresh_is y plan same acts steps =
+    let none : acts_in y.plan.reporters y.acts.items ≡ (fresh plan).acts =
+    ap (λ (p : Plan). acts_in p.reporters y.acts.items) same ∙ fresh_acts plan.reporters y.acts.items acts in
+    λ i. record { plan = same i; acts = none i; steps = steps i }
 
 pub fresh_brief : (y : Inside) (plan : Plan) → IsPlan plan → AreListsReports plan → y.plan ≡ plan
-    → Shows plan (start_state plan) y.parts → acts_in y.acts.items ≡ map (λ r. no_act) plan.reporters
-    → rooms_in y.acts.items ≡ limits plan → y.log.steps.items.items ≡ [] → y.log.published.items.items ≡ []
+    → Shows plan (start_state plan) y.parts → Paired IsNew plan.reporters y.acts.items
+    → y.log.steps.items.items ≡ [] → y.log.published.items.items ≡ []
     → HasRoom (most_steps plan) y.log → Tallies plan [] y.tally → IsBrief y
-fresh_brief y plan is_plan reports same shows acts rooms steps published room tallies =
-    let is : played y ≡ fresh plan = λ i. record { plan = same i; acts = acts i; steps = steps i } in
+fresh_brief y plan is_plan reports same shows acts steps published room tallies =
+    let is : played y ≡ fresh plan = fresh_is y plan same acts steps in
     let counted : Tallies plan (own_run (fresh plan)).notes y.tally =
     subst (λ ns. Tallies plan ns y.tally) (sym (fresh_notes plan)) tallies in
     let from : Shows plan (state_of (fresh plan)) y.parts =
@@ -101,7 +107,10 @@ fresh_brief y plan is_plan reports same shows acts rooms steps published room ta
           (subst (λ (b : Played). Tallies plan (own_run b).notes y.tally) (sym is) counted);
       harts = ap (λ (m : Machine). m.events.harts) shows.machine ∙ ap (λ (p : Plan). p.harts) (sym same);
       room = subst (λ n. HasRoom n y.log) (ap most_steps (sym same)) room;
-      room_for_acts = rooms ∙ ap limits (sym same);
+      reporters = paired_many IsNew plan.reporters y.acts.items acts
+          ∙ ap (λ (p : Plan). length p.reporters) (sym same);
+      suit = subst (λ (p : Plan). Paired Suits p.reporters y.acts.items) (sym same)
+          (paired_on IsNew Suits plan.reporters y.acts.items (λ d m new. new.suits) acts);
     }
 
 -- ---- No step ----
@@ -121,7 +130,8 @@ idle_brief x y o board plan acts log tally harts steps =
       tallies = board.tallies;
       harts = harts ∙ board.harts;
       room = board.room;
-      room_for_acts = board.room_for_acts;
+      reporters = board.reporters;
+      suit = board.suit;
     })
 
 -- ---- A step ----
@@ -145,8 +155,8 @@ on_brief : (x y : Inside) (b : Played) → IsBrief x → y.plan ≡ x.plan
     → y.parts.firmware.events.harts ≡ x.parts.firmware.events.harts → played y ≡ b
     → Keeps b y.log.published.items.items → Shows x.plan (state_of b) y.parts
     → Tallies x.plan (own_run b).notes y.tally → HasSameRoom x.log y.log
-    → rooms_in y.acts.items ≡ rooms_in x.acts.items → IsBrief y
-on_brief x y b board plan harts is keeps shows tallies room rooms =
+    → length y.acts.items ≡ length x.acts.items → Paired Suits x.plan.reporters y.acts.items → IsBrief y
+on_brief x y b board plan harts is keeps shows tallies room many suit =
     record {
       keeps = subst (λ (c : Played). Keeps c y.log.published.items.items) (sym is) keeps;
       shows = subst (λ (p : Plan). Shows p (state_of (played y)) y.parts) (sym plan)
@@ -158,7 +168,8 @@ on_brief x y b board plan harts is keeps shows tallies room rooms =
         steps = room.steps ∙ board.room.steps ∙ ap most_steps (sym plan);
         published = room.published ∙ board.room.published ∙ ap most_steps (sym plan);
       };
-      room_for_acts = rooms ∙ board.room_for_acts ∙ ap limits (sym plan);
+      reporters = many ∙ board.reporters ∙ ap (λ (p : Plan). length p.reporters) (sym plan);
+      suit = subst (λ (p : Plan). Paired Suits p.reporters y.acts.items) (sym plan) suit;
     }
 
 -- what was added to the lists
@@ -245,7 +256,8 @@ hart_brief x y h c low board plan acts harts steps logged counts =
     let d = it_came (hart_step h x.plan s) c steps.outcome in
     let b = with_step (Hart h) (played x) in
     let is : played y ≡ b =
-    λ i. record { plan = plan i; acts = acts_in (acts i).items; steps = logged.steps i } in
+    λ i. record { plan = plan i; acts = acts_in (plan i).reporters (acts i).items; steps = logged.steps i } in
+    let items : y.acts.items ≡ x.acts.items = λ i. (acts i).items in
     let goes = hart_goes_on h (played x) d.made d.is in
     on_brief x y b board plan harts is
     (keeps_as x.log y.log b (Hart h) c d.made d.told logged
@@ -255,13 +267,13 @@ hart_brief x y h c low board plan acts harts steps logged counts =
     (subst (λ (r : Ran). Tallies x.plan r.notes y.tally) (sym goes)
     (counts_on x (Hart h) c d.made y.tally board d.told counts
     (hart_is_next x.plan (acts_of (played x)) (played x).steps h d.made (few_notes x board) d.is)))
-    logged.room (λ i. rooms_in (acts i).items)
+    logged.room (ap length items) (subst (Paired Suits x.plan.reporters) (sym items) board.suit)
 
 pub hart_next : (x y : Inside) (h : ℕ) (c : Outcome) → y.plan ≡ x.plan → y.acts ≡ x.acts → HartCame x h y.parts c
     → IsLogged x.log y.log (Hart h) c → played y ≡ after_hart h (played x)
 hart_next x y h c plan acts steps logged =
     let d = it_came (hart_step h x.plan (state_of (played x))) c steps.outcome in
-    (λ i. record { plan = plan i; acts = acts_in (acts i).items; steps = logged.steps i })
+    (λ i. record { plan = plan i; acts = acts_in (plan i).reporters (acts i).items; steps = logged.steps i })
     ∙ sym (ap (after_hart_step h (played x)) d.is)
 
 pub hart_note : (x : Inside) (h : ℕ) (p : Parts) (c : Outcome) → HartCame x h p c
@@ -319,66 +331,83 @@ act_fits x r a p c board steps =
     one_more_fits x d.made board (reporter_makes r x.plan s (Some a) d.made d.is).number
     (reached_reporter r x.plan s (Some a) d.made board.keeps.reached d.is)
 
--- the acts of a reporter, where they are kept
-acts_are : (x : Inside) (r : ℕ) (k : Kept Act) → r < length x.acts.items → k ≡ get_or x.acts.items r k
-    → acts_of (played x) r ≡ k.items.items
-acts_are x r k low read =
-    get_or_from_slice_get (acts_in x.acts.items) r k.items.items []
-    (slice_get-map (λ (j : Kept Act). j.items.items) x.acts.items r
-    ∙ ap (option_map (λ (j : Kept Act). j.items.items))
-    (slice_get_read x.acts.items (length x.acts.items) r k refl low read))
+-- the acts of a reporter, where they are counted or kept
+pub acts_are : (x : Inside) (r : ℕ) (d : plan_reporter.Reporter) (m : Made) → r < length x.acts.items
+    → slice_get x.plan.reporters r ≡ Some d → m ≡ get_or x.acts.items r m → acts_of (played x) r ≡ acts_by d m
+acts_are x r d m low declared read =
+    get_or_from_slice_get (acts_in x.plan.reporters x.acts.items) r (acts_by d m) []
+    (acts_at x.plan.reporters x.acts.items r d m declared
+    (slice_get_read x.acts.items (length x.acts.items) r m refl low read))
 
-acts_many : (x : Inside) → IsBrief x → length x.acts.items ≡ length x.plan.reporters
-acts_many x board =
-    sym (length-map x.acts.items (λ (j : Kept Act). j.items.items)) ∙ board.keeps.played.reporters
+pub acts_suit : (x : Inside) (r : ℕ) (d : plan_reporter.Reporter) (m : Made) → IsBrief x → r < length x.acts.items
+    → slice_get x.plan.reporters r ≡ Some d → m ≡ get_or x.acts.items r m → Suits d m
+acts_suit x r d m board low declared read =
+    paired_at Suits x.plan.reporters x.acts.items r d m board.suit declared
+    (slice_get_read x.acts.items (length x.acts.items) r m refl low read)
 
-pub act_has_place : (x : Inside) (r : ℕ) (a : Act) (p : Parts) (c : Outcome) (k : Kept Act)
-    → r < length x.plan.reporters → IsBrief x → ActCame x r a p c → k ≡ get_or x.acts.items r k
-    → length k.items.items < k.room
-act_has_place x r a p c k low board steps read =
+pub act_has_place : (x : Inside) (r : ℕ) (a : Act) (p : Parts) (c : Outcome) (m : Made)
+    → r < length x.plan.reporters → IsBrief x → ActCame x r a p c → m ≡ get_or x.acts.items r m → HasActPlace m
+act_has_place x r a p c m low board steps read =
     let s = state_of (played x) in
     let d = it_came (reporter_step r x.plan (Some a) s) c steps.outcome in
     let makes = reporter_makes r x.plan s (Some a) d.made d.is in
-    let there : r < length x.acts.items = omega (arith, low, acts_many x board) in
-    let room : Some k.room ≡ Some makes.decl.limit =
-    sym (slice_get-map (λ (j : Kept Act). j.room) x.acts.items r
-    ∙ ap (option_map (λ (j : Kept Act). j.room))
-    (slice_get_read x.acts.items (length x.acts.items) r k refl there read))
-    ∙ ap (λ (ls : List ℕ). slice_get ls r) board.room_for_acts
-    ∙ slice_get-map (λ (q : plan_reporter.Reporter). q.limit) x.plan.reporters r
-    ∙ ap (option_map (λ (q : plan_reporter.Reporter). q.limit)) makes.declared in
-    let used : length k.items.items ≡ makes.was.made =
-    ap length (sym (acts_are x r k there read)) ∙ sym (board.keeps.played.used r) ∙ ap made_by makes.there in
-    omega (arith, used, same_Some k.room makes.decl.limit room, makes.allowed)
+    let there : r < length x.acts.items = omega (arith, low, board.reporters) in
+    let used : length (acts_by makes.decl m) ≡ makes.was.made =
+    ap length (sym (acts_are x r makes.decl m there makes.declared read)) ∙ sym (board.keeps.played.used r)
+    ∙ ap made_by makes.there in
+    has_place makes.decl m (acts_suit x r makes.decl m board there makes.declared read)
+    (omega (arith, used, makes.allowed))
+    (omega (arith, limit_within x.plan.reporters r makes.decl makes.declared, board.keeps.played.is_plan.few_steps))
 
--- one act more is kept
+-- one act more is counted or kept
 pub record IsActed (x y : Inside) (r : ℕ) (a : Act) : Type 0 where
-  pub old : Kept Act
-  pub new : Kept Act
+  pub old : Made
+  pub new : Made
   pub read : old ≡ get_or x.acts.items r old
-  pub items : new.items.items ≡ old.items.items ++ a ∷ []
-  pub room : new.room ≡ old.room
+  pub added : HasAdded a old new
   pub acts : y.acts.items ≡ set x.acts.items r new
 
-acted_is : (x y : Inside) (r : ℕ) (a : Act) → r < length x.acts.items → IsActed x y r a
-    → acts_in y.acts.items ≡ (with_act r a (played x)).acts
-acted_is x y r a low acted =
-    ap acts_in acted.acts
-    ∙ map-set (λ (j : Kept Act). j.items.items) x.acts.items r acted.new
-    ∙ ap (set (acts_in x.acts.items) r)
-    (acted.items ∙ ap (λ xs. xs ++ a ∷ []) (sym (acts_are x r acted.old low acted.read)))
+-- an act that is handed for a list is its next
+abbrev IsHanded : Inside → ℕ → Act → Type 0
+IsHanded x r a = is_list x.plan r ≡ true → Some a ≡ listed (played x) r
 
-rooms_same : (x y : Inside) (r : ℕ) (a : Act) → IsActed x y r a → rooms_in y.acts.items ≡ rooms_in x.acts.items
-rooms_same x y r a acted =
-    ap rooms_in acted.acts
-    ∙ map-set_same (λ (j : Kept Act). j.room) x.acts.items r acted.new acted.old
-    (acted.room ∙ ap (λ (j : Kept Act). j.room) acted.read)
+act_is_next : (x : Inside) (r : ℕ) (a : Act) (d : plan_reporter.Reporter) (m : Made) → IsBrief x
+    → r < length x.acts.items → slice_get x.plan.reporters r ≡ Some d → m ≡ get_or x.acts.items r m
+    → IsHanded x r a → IsListsNext d m a
+act_is_next x r a d m board low declared read handed is =
+    let list : is_list x.plan r ≡ true = ap (λ (o : Option plan_reporter.Reporter). has_list o) declared ∙ is in
+    ap (λ xs. slice_get d.acts (length xs)) (sym (acts_are x r d m low declared read))
+    ∙ ap (slice_get d.acts) (sym (board.keeps.played.used r)) ∙ sym (listed_is (played x) r d declared is)
+    ∙ sym (handed list)
+
+acted_is : (x y : Inside) (r : ℕ) (a : Act) (d : plan_reporter.Reporter) → IsBrief x → r < length x.acts.items
+    → slice_get x.plan.reporters r ≡ Some d → IsHanded x r a → IsActed x y r a
+    → acts_in x.plan.reporters y.acts.items ≡ (with_act r a (played x)).acts
+acted_is x y r a d board low declared handed acted =
+    ap (acts_in x.plan.reporters) acted.acts
+    ∙ acts_set x.plan.reporters x.acts.items r d acted.new low declared
+    ∙ ap (set (acts_in x.plan.reporters x.acts.items) r)
+    (added_is d a acted.old acted.new (acts_suit x r d acted.old board low declared acted.read)
+    (act_is_next x r a d acted.old board low declared acted.read handed) acted.added
+    ∙ ap (λ xs. xs ++ a ∷ []) (sym (acts_are x r d acted.old low declared acted.read)))
+
+acted_suits : (x y : Inside) (r : ℕ) (a : Act) (d : plan_reporter.Reporter) → IsBrief x → r < length x.acts.items
+    → slice_get x.plan.reporters r ≡ Some d → IsHanded x r a → IsActed x y r a
+    → Paired Suits x.plan.reporters y.acts.items
+acted_suits x y r a d board low declared handed acted =
+    subst (Paired Suits x.plan.reporters) (sym acted.acts)
+    (paired_set Suits x.plan.reporters x.acts.items r d acted.new board.suit declared
+    (added_suits d a acted.old acted.new (acts_suit x r d acted.old board low declared acted.read)
+    (act_is_next x r a d acted.old board low declared acted.read handed) acted.added))
 
 pub act_is : (x y : Inside) (r : ℕ) (a : Act) (c : Outcome) → r < length x.plan.reporters → IsBrief x
-    → y.plan ≡ x.plan → IsActed x y r a → IsLogged x.log y.log (Reporter r) c
-    → played y ≡ with_step (Reporter r) (with_act r a (played x))
-act_is x y r a c low board plan acted logged =
-    let acts = acted_is x y r a (omega (arith, low, acts_many x board)) acted in
+    → y.plan ≡ x.plan → (is_list x.plan r ≡ true → Some a ≡ listed (played x) r) → IsActed x y r a
+    → IsLogged x.log y.log (Reporter r) c → played y ≡ with_step (Reporter r) (with_act r a (played x))
+act_is x y r a c low board plan handed acted logged =
+    let d = get_there x.plan.reporters r low in
+    let acts : acts_in y.plan.reporters y.acts.items ≡ (with_act r a (played x)).acts =
+    ap (λ (p : Plan). acts_in p.reporters y.acts.items) plan
+    ∙ acted_is x y r a d.0 board (omega (arith, low, board.reporters)) d.1 handed acted in
     λ i. record { plan = plan i; acts = acts i; steps = logged.steps i }
 
 pub act_brief : (x y : Inside) (r : ℕ) (a : Act) (c : Outcome) → r < length x.plan.reporters → IsBrief x
@@ -392,7 +421,8 @@ act_brief x y r a c low board plan harts steps handed report acted logged counts
     let keeps = board.keeps in
     let there : r < length (played x).acts = omega (arith, low, keeps.played.reporters) in
     let goes = reporter_goes_on r a (played x) d.made there keeps.played.all_made (keeps.played.used r) d.is in
-    on_brief x y b board plan harts (act_is x y r a c low board plan acted logged)
+    let declared = get_there x.plan.reporters r low in
+    on_brief x y b board plan harts (act_is x y r a c low board plan handed acted logged)
     (keeps_as x.log y.log b (Reporter r) c d.made d.told logged
     (keeps_reporter r a (played x) d.made x.log.published.items.items low keeps handed report d.is))
     (subst (λ (q : Ran). Shows x.plan q.state y.parts) (sym goes)
@@ -400,7 +430,8 @@ act_brief x y r a c low board plan harts steps handed report acted logged counts
     (subst (λ (q : Ran). Tallies x.plan q.notes y.tally) (sym goes)
     (counts_on x (Reporter r) c d.made y.tally board d.told counts
     (reporter_is_next x.plan (acts_of (played x)) (played x).steps r (Some a) d.made (few_notes x board) d.is)))
-    logged.room (rooms_same x y r a acted)
+    logged.room (ap length acted.acts ∙ length-set x.acts.items r acted.new)
+    (acted_suits x y r a declared.0 board (omega (arith, low, board.reporters)) declared.1 handed acted)
 
 pub act_next : (x y : Inside) (r : ℕ) (a : Act) (c : Outcome) → ActCame x r a y.parts c
     → played y ≡ with_step (Reporter r) (with_act r a (played x)) → played y ≡ after_reporter r (Some a) (played x)

@@ -1,5 +1,5 @@
 -- A board's own run is safe.
-use Rattle.std.proofs.Common.{◌≡◌, ℕ, ◌<◌, Some, length, arith}
+use Rattle.std.proofs.Common.{ℕ, ◌<◌, Some, length, arith}
 use Rattle.ras_device.specs.declared.act.Act.{Act}
 use Rattle.board_plan.specs.declared.notes.Step.TheVariants.{Reporter}
 use Rattle.board_laws.proofs.Safe.{run_is_safe}

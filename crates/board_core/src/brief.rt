@@ -1,11 +1,10 @@
 //! The board that keeps no notes, and how contracts see it.
 
-use crate::kept::Kept;
 use crate::log::Log;
+use crate::made::Made;
 use board_fates::Tally;
 use board_parts::Parts;
 use board_plan::Plan;
-use ras_device::Act;
 use std::marker::Model;
 
 /// A board that keeps no notes: which steps were made, but not what they did. Contracts see its plan, the acts that its
@@ -14,7 +13,7 @@ use std::marker::Model;
 pub struct Brief {
     pub(crate) plan: Plan,
     pub(crate) parts: Parts,
-    pub(crate) acts: Vec<Kept<Act>>,
+    pub(crate) acts: Vec<Made>,
     pub(crate) log: Log,
     pub(crate) tally: Tally,
 }

@@ -11,6 +11,7 @@ mod brief;
 mod kept;
 mod log;
 mod looks;
+mod made;
 mod making;
 mod noting;
 mod reporters;

@@ -1,17 +1,16 @@
 //! How a board that keeps no notes is made of its plan.
 
-ghost use Rattle.std.specs.Prelude.{◌≡◌, ◌≤◌, [], IfOk, map, sum_by};
+ghost use Rattle.std.specs.Prelude.{◌≡◌, ◌≤◌, IfOk, sum_by};
 ghost use Rattle.board_plan.specs.Plans.{IsPlan, most_steps};
-ghost use Rattle.board_core.specs.Inside.{acts_in, rooms_in};
+ghost use Rattle.board_core.specs.OwnActs.{IsNew, Paired};
 ghost use Rattle.board_core.specs.Played.{AreListsReports, IsSafe, fresh};
 
 use crate::brief::Brief;
-use crate::kept::Kept;
 use crate::log::Log;
+use crate::made::Made;
 use board_fates::Tally;
 use board_parts::Parts;
 use board_plan::{List, Plan, Reporter, Start};
-use ras_device::Act;
 use ras_io::NoMemory;
 use std::alloc::Global;
 
@@ -47,21 +46,20 @@ fn most_steps(plan: &Plan) -> usize
     all_budgets(plan.starts.as_slice()) + all_limits(plan.reporters.as_slice())
 }
 
-/// No acts of each reporter, with room for as many as it may make.
-fn no_acts(alloc: Global, reporters: &[Reporter]) -> Result<Vec<Kept<Act>>, NoMemory>
-    ensures acts { IfOk result (λ v. acts_in v.items ≡ map (λ r. []) reporters.now) }
-    ensures room { IfOk result (λ v. rooms_in v.items ≡ map (λ r. r.limit) reporters.now) }
+/// No acts of each reporter.
+fn no_acts(alloc: Global, reporters: &[Reporter]) -> Result<Vec<Made>, NoMemory>
+    ensures { IfOk result (λ v. Paired IsNew reporters.now v.items) }
 {
     let mut acts = List::new(alloc);
     for reporter in reporters {
-        acts.push(Kept::new(alloc, usize::from(reporter.limit))?)?;
+        acts.push(Made::new(alloc, reporter)?)?;
     }
     Ok(acts.into_vec())
 }
 
 impl Brief {
-    /// A board of a plan before its first step. It takes over the plan, and takes all memory that its steps need. `NoMemory` comes only where no
-    /// room was found for it.
+    /// A board of a plan before its first step. It takes over the plan, and takes all memory that its steps need.
+    /// `NoMemory` comes only where no room was found for it.
     pub fn new(alloc: Global, plan: Plan) -> Result<Brief, NoMemory>
         requires plan { IsPlan plan }
         requires reports { AreListsReports plan }

@@ -46,6 +46,7 @@ impl Brief {
         requires { reporter < length self.now.plan.reporters }
         ensures { result.now ≡ acts_of self.now reporter }
     {
-        self.acts[reporter as usize].items.as_slice()
+        let decl = &self.plan.reporters.as_slice()[reporter as usize];
+        self.acts[reporter as usize].acts(decl)
     }
 }

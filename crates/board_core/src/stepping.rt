@@ -50,7 +50,7 @@ impl Brief {
         if !self.parts.reporter_step(reporter, act, outcome) {
             return false;
         }
-        self.acts[reporter as usize].push(next);
+        self.acts[reporter as usize].add(next);
         self.log.keep(Step::Reporter(reporter), &outcome.published);
         self.tally.count(&outcome.note);
         true

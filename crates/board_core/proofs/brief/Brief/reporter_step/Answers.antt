@@ -51,8 +51,8 @@ returns-then-not-reporter_step-clause-note c =
 pub returns-then-not-reporter_step-clause-safe : goal.returns-then-not-reporter_step-clause-safe
 returns-then-not-reporter_step-clause-safe c = is_safe (played c.self.inside) c.self.invariant.keeps.played
 
-pub push-requires : goal.push-requires
-push-requires c =
+pub add-requires : goal.add-requires
+add-requires c =
     let x = c.self.inside in
     let r = c.args.reporter in
     let a = c.in-Some.next in
@@ -99,10 +99,9 @@ invariant_of-self-2 c =
     handed (subst IsReport c.in-Some.is c.requires.report)
     (record {
       old = c.index_mut.result.now;
-      new = c.push.new.self;
+      new = c.add.new.self;
       read = c.index_mut.ensures.value;
-      items = c.push.ensures.items;
-      room = c.push.ensures.room;
+      added = c.add.ensures;
       acts = refl;
     })
     (record { steps = kept.steps; published = kept.published; room = kept.room }) c.count.ensures
@@ -114,25 +113,27 @@ returns-clause-next c =
     let a = c.in-Some.next in
     let low : r < length x.plan.reporters =
     omega (arith, c.requires.there, ap (λ (b : Played). length b.plan.reporters) c.self.view_is) in
+    let handed : is_list x.plan r ≡ true → Some a ≡ listed (played x) r =
+    subst (λ (b : Played). is_list b.plan r ≡ true → Some a ≡ listed b r) (sym c.self.view_is)
+    (λ q. sym c.in-Some.is ∙ c.requires.list q) in
     let kept = c.keep.ensures in
     let y : Inside =
     record {
       plan = x.plan;
       parts = c.reporter_step.new.self;
-      acts = with_item x.acts r c.push.new.self;
+      acts = with_item x.acts r c.add.new.self;
       log = c.keep.new.self;
       tally = c.count.new.self;
     } in
     act_next x y r a c.reporter_step.new.outcome
     (act_came x r a c.reporter_step.new.self c.reporter_step.result c.reporter_step.new.outcome c.self.invariant
     c.reporter_step.ensures.steps c.if-not-reporter_step.false)
-    (act_is x y r a c.reporter_step.new.outcome low c.self.invariant refl
+    (act_is x y r a c.reporter_step.new.outcome low c.self.invariant refl handed
     (record {
       old = c.index_mut.result.now;
-      new = c.push.new.self;
+      new = c.add.new.self;
       read = c.index_mut.ensures.value;
-      items = c.push.ensures.items;
-      room = c.push.ensures.room;
+      added = c.add.ensures;
       acts = refl;
     })
     (record { steps = kept.steps; published = kept.published; room = kept.room }))
@@ -167,23 +168,25 @@ returns-clause-safe c =
     let a = c.in-Some.next in
     let low : r < length x.plan.reporters =
     omega (arith, c.requires.there, ap (λ (b : Played). length b.plan.reporters) c.self.view_is) in
+    let handed : is_list x.plan r ≡ true → Some a ≡ listed (played x) r =
+    subst (λ (b : Played). is_list b.plan r ≡ true → Some a ≡ listed b r) (sym c.self.view_is)
+    (λ q. sym c.in-Some.is ∙ c.requires.list q) in
     let kept = c.keep.ensures in
     let y : Inside =
     record {
       plan = x.plan;
       parts = c.reporter_step.new.self;
-      acts = with_item x.acts r c.push.new.self;
+      acts = with_item x.acts r c.add.new.self;
       log = c.keep.new.self;
       tally = c.count.new.self;
     } in
     subst IsSafe
-    (sym (act_is x y r a c.reporter_step.new.outcome low c.self.invariant refl
+    (sym (act_is x y r a c.reporter_step.new.outcome low c.self.invariant refl handed
     (record {
       old = c.index_mut.result.now;
-      new = c.push.new.self;
+      new = c.add.new.self;
       read = c.index_mut.ensures.value;
-      items = c.push.ensures.items;
-      room = c.push.ensures.room;
+      added = c.add.ensures;
       acts = refl;
     })
     (record { steps = kept.steps; published = kept.published; room = kept.room })))
