@@ -29,7 +29,7 @@ struct Tree {
 pub struct OpIndex {
     tree: Tree,
     near: Vec<Placed>,
-    hints: [u16; HINTS],
+    hints: Vec<u16>,
 }
 
 impl Tree {
@@ -98,12 +98,15 @@ fn found(alloc: Global, tree: &Tree, ops: &[Placed]) -> Result<Vec<Placed>, Allo
 }
 
 /// The hints at these ops.
-fn hints(near: &[Placed]) -> [u16; HINTS] {
-    let mut hints = [0; HINTS];
+fn hints(alloc: Global, near: &[Placed]) -> Result<Vec<u16>, AllocError> {
+    let mut hints = Vec::new(alloc);
+    hints.resize(HINTS, 0)?;
     for i in 0..near.len().min(HINTS) {
-        hints[hint_of(near[i].pc)] = i as u16;
+        if let Some(hint) = hints.get_mut(hint_of(near[i].pc)) {
+            *hint = i as u16;
+        }
     }
-    hints
+    Ok(hints)
 }
 
 impl OpIndex {
@@ -113,7 +116,7 @@ impl OpIndex {
     {
         let tree = Tree::new(alloc, ops)?;
         let near = found(alloc, &tree, ops).map_err(|_| NoMemory)?;
-        let hints = hints(&near);
+        let hints = hints(alloc, &near).map_err(|_| NoMemory)?;
         Ok(OpIndex { tree, near, hints })
     }
 
@@ -121,8 +124,8 @@ impl OpIndex {
     pub fn get(&self, pc: u64) -> Option<&Op>
         ensures { (ops : List Placed) → Indexes ops self.now → option_copied result ≡ op_at pc ops }
     {
-        let hint = self.hints[hint_of(pc)] as usize;
-        match self.near.get(hint) {
+        let hint = self.hints.get(hint_of(pc)).copied().unwrap_or(0);
+        match self.near.get(usize::from(hint)) {
             Some(placed) if placed.pc == pc => Some(&placed.op),
             _ => self.tree.get(pc),
         }

@@ -34,6 +34,9 @@ const MOST_REPORTERS: usize = 8;
 
 const MOST_ACTS: usize = 10_000;
 
+// how many acts a list has room for at first: so many that it grows by moving its pages and not its bytes
+const FIRST_ACTS: usize = 4096;
+
 const MOST_LIMIT: u64 = 10_000;
 
 const LAST_DEVICE: u64 = 7;
@@ -159,10 +162,11 @@ impl Half {
         let [] = words else {
             return Err(ReadFault::Line(LineFault::Count));
         };
+        let acts = Vec::with_capacity(self.alloc, FIRST_ACTS).map_err(|_| NoMemory)?;
         self.add_reporter(Reporter {
             device: None,
             limit: 0,
-            acts: List::new(self.alloc),
+            acts: List::from_vec(acts),
         })
     }
 
