@@ -108,8 +108,8 @@ fn hold<R: Wait, D: ErrorDevice, B: Lent>(
     worker.try_step(board, outcome)
 }
 
-/// Lets one worker make steps on the board behind the lock, until it has none. For each try it tells the gate, waits for
-/// the lock, which is all that it waits for, and gives the lock up behind the try. Tries are 10,001 at most.
+/// Lets one worker make steps on the board behind the lock, until it has none. For each try it tells the gate, waits
+/// for the lock, which is all that it waits for, and gives the lock up behind the try. Tries are 10,001 at most.
 #[tactic(auto, using(crate::proofs::Staying::stays_then))]
 pub fn work<R: Wait, G: Gate, D: ErrorDevice, B: Lent>(
     rt: &R,
@@ -169,10 +169,10 @@ fn round<R: Threads + Wait + Sync, G: Gate + Sync, D: ErrorDevice, B: Lent>(
     workers.iter().any(|worker| worker.made)
 }
 
-/// Lets all workers work beside one another on the board behind the lock, each in its own thread, round after round. The
-/// round in which no worker made a step is the last; there are 160,001 rounds at most. The lock of the board is all that
-/// is waited for. Of each worker the actor and the limit stay, and so do all its acts: those that its device gave, and
-/// behind them those that it is still to give.
+/// Lets all workers work beside one another on the board behind the lock, each in its own thread, round after round.
+/// The round in which no worker made a step is the last; there are 160,001 rounds at most. The lock of the board is all
+/// that is waited for. Of each worker the actor and the limit stay, and so do all its acts: those that its device gave,
+/// and behind them those that it is still to give.
 #[tactic(auto, using(crate::proofs::Staying::each_same, crate::proofs::Staying::each_then))]
 pub fn rounds<R: Threads + Wait + Sync, G: Gate + Sync, D: ErrorDevice, B: Lent>(
     rt: &R,

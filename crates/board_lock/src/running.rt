@@ -17,13 +17,13 @@ use std::alloc::Global;
 use std::sync::Wait;
 use std::thread::Threads;
 
-/// Runs a plan: each hart and each reporter gets a worker, and all workers step beside one another on one board behind a
-/// lock, up to a round in which none of them made a step. Then the steps of that board are tried on a second one, in the
-/// order in which the lock kept them; reporters are handed the same acts again, and devices are asked for more only when
-/// these are used up. Rounds of tries follow, of which the first idle one is the last. The second board is the answer:
-/// each of its steps was made, and no one has a step after them. A reporter that names a device has the one of that
-/// place in the list, and no acts where there is none. Neither board keeps notes. `NoMemory` comes only where no room
-/// was found, and all of it is taken before the first step. This project's own.
+/// Runs a plan: each hart and each reporter gets a worker, and all workers step beside one another on one board behind
+/// a lock, up to a round in which none of them made a step. Then the steps of that board are tried on a second one, in
+/// the order in which the lock kept them; reporters are handed the same acts again, and devices are asked for more only
+/// when these are used up. Rounds of tries follow, of which the first idle one is the last. The second board is the
+/// answer: each of its steps was made, and no one has a step after them. A reporter that names a device has the one of
+/// that place in the list, and no acts where there is none. Neither board keeps notes. `NoMemory` comes only where no
+/// room was found, and all of it is taken before the first step. This project's own.
 pub fn run_plan<R: Threads + Wait + Sync, G: Gate + Sync, D: ErrorDevice>(
     rt: &R,
     alloc: Global,

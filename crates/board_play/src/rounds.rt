@@ -43,11 +43,12 @@ fn schedule_of(alloc: Global, plan: &Plan) -> Result<Option<List<Step>>, NoMemor
     Ok(Some(steps.copy(alloc)?))
 }
 
-/// Plays a plan on a board of its own, which takes the plan over: what its schedule gives where there is one, else rounds up to the first in which
-/// nobody made a step. The acts of a reporter that names a device are those that the device gives, and none where it
-/// isn't there. A device is asked for one act at each try of its reporter, as long as the reporter is wanted; at the
-/// first try after that it is dropped, or else at the end. The watcher is told of each step as it is made. All memory
-/// is taken before the first step: `NoMemory` comes only where no room was found, and then nothing was told.
+/// Plays a plan on a board of its own, which takes the plan over: what its schedule gives where there is one, else
+/// rounds up to the first in which nobody made a step. The acts of a reporter that names a device are those that the
+/// device gives, and none where it isn't there. A device is asked for one act at each try of its reporter, as long as
+/// the reporter is wanted; at the first try after that it is dropped, or else at the end. The watcher is told of each
+/// step as it is made. All memory is taken before the first step: `NoMemory` comes only where no room was found, and
+/// then nothing was told.
 pub fn play_plan<D: ErrorDevice, W: Watch>(
     alloc: Global,
     plan: Plan,

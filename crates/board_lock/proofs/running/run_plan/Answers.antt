@@ -21,7 +21,8 @@ returns g c =
     (ap (map hand) c.as_mut_slice-workers.ensures.value ∙ c.in_ok-all.ensures) c.rounds.ensures in
     let agrees = ready plan devices (map hand c.rounds.new.workers) (map hand c.rewind_all.new.workers)
     c.in_ok-board.board each c.rewind_all.ensures fresh in
-    whole_run left c.args.devices.items plan c.in_ok-board.board c.replay_on.new.board (map hand c.replay_on.new.workers)
+    whole_run left c.args.devices.items plan c.in_ok-board.board c.replay_on.new.board
+    (map hand c.replay_on.new.workers)
     c.steps.result.now c.requires.plan c.requires.reports (ap (λ (b : Played). b.plan) fresh)
     c.steps-steps.ensures.played (c.replay_on.ensures.tries (lists plan devices) agrees)
     (c.replay_on.ensures.agrees (lists plan devices) agrees)

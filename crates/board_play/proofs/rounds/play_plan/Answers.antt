@@ -13,12 +13,14 @@ returns-clause-run g c =
       | in-Some w ↦
           run-scheduled c.args.plan devices (lefts g.D.ErrorDevice.left c.as_mut_slice-places.result.now) _
           c.in_ok-board.board _ c.match-schedule-2.board _ _ c.in_ok-board.ensures.fresh c.requires.plan.named_once
-          (ap (lefts g.D.ErrorDevice.left) c.as_mut_slice-places.ensures.value ∙ c.in_ok-places.ensures) (sym c.in_ok-schedule.ensures ∙ w.in-Some.is)
+          (ap (lefts g.D.ErrorDevice.left) c.as_mut_slice-places.ensures.value ∙ c.in_ok-places.ensures)
+          (sym c.in_ok-schedule.ensures ∙ w.in-Some.is)
           w.as_slice.ensures w.try_steps.ensures.plays w.board-is
       | in-None w ↦
           run-rounds c.args.plan devices (lefts g.D.ErrorDevice.left c.as_mut_slice-places.result.now)
           c.in_ok-board.board _ c.match-schedule-2.board c.in_ok-board.ensures.fresh c.requires.plan.named_once
-          (ap (lefts g.D.ErrorDevice.left) c.as_mut_slice-places.ensures.value ∙ c.in_ok-places.ensures) (sym c.in_ok-schedule.ensures ∙ w.in-None.is)
+          (ap (lefts g.D.ErrorDevice.left) c.as_mut_slice-places.ensures.value ∙ c.in_ok-places.ensures)
+          (sym c.in_ok-schedule.ensures ∙ w.in-None.is)
           w.try_rounds.ensures.rounds w.try_rounds.ensures.plan w.board-is
     ]
 

@@ -14,13 +14,15 @@ returns-then-digit-ge10 c =
 pub overflow_mul-value : goal.overflow_mul-value
 overflow_mul-value c =
     let l = c.loop-byte in
-    let top = nineteen_digits l.value 0 l.byte-index l.invariant.few (omega arith) (omega arith) in
+    let top = nineteen_digits l.value 0 l.byte-index l.invariant.few (omega arith)
+    (omega arith) in
     omega (arith, top)
 
 pub overflow_add-value : goal.overflow_add-value
 overflow_add-value c =
     let l = c.loop-byte in
-    let top = nineteen_digits l.value c.decimal_digit_of-digit.result l.byte-index l.invariant.few (omega arith) (omega arith) in
+    let top = nineteen_digits l.value c.decimal_digit_of-digit.result l.byte-index l.invariant.few (omega arith)
+    (omega arith) in
     omega (arith, top)
 
 pub loop-byte-preserved : goal.loop-byte-preserved
