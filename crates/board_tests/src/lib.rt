@@ -1,6 +1,8 @@
-//! Tests of the top call: scripts that are played or moved, and what comes of them.
+//! Tests of the top call: scripts that are played or moved, the commands that take a number, and what comes of them.
 #![tactic(auto)]
 
+#[cfg(test)]
+mod commands;
 #[cfg(test)]
 mod drains;
 #[cfg(test)]
@@ -9,6 +11,10 @@ mod faults;
 mod first;
 #[cfg(test)]
 mod handlers;
+#[cfg(test)]
+mod loads;
+#[cfg(test)]
+mod pages;
 #[cfg(test)]
 mod plays;
 #[cfg(test)]

@@ -1,4 +1,5 @@
-//! Tests of a board: lists of calls of its harts and reporters, and what they leave.
+//! Tests of a board: lists of calls of its harts and reporters, and what they leave; and of the workers that make its
+//! steps by turns.
 #![tactic(auto)]
 
 #[cfg(test)]
@@ -13,3 +14,9 @@ mod harts;
 mod random;
 #[cfg(test)]
 mod reporters;
+#[cfg(test)]
+mod reports;
+#[cfg(test)]
+mod rewinds;
+#[cfg(test)]
+mod turns;

@@ -1,4 +1,5 @@
-//! Tests of whole runs: workers beside one another, the steps that the lock kept, and devices that are dropped once.
+//! Tests of plays and runs with devices: whose acts they are, when a device is asked and when it is dropped, workers
+//! beside one another, and the steps that the lock kept.
 #![tactic(auto)]
 
 #[cfg(test)]
@@ -6,7 +7,13 @@ mod counted;
 #[cfg(test)]
 mod gates;
 #[cfg(test)]
+mod kinds;
+#[cfg(test)]
 mod outcomes;
+#[cfg(test)]
+mod plays;
+#[cfg(test)]
+mod realistic;
 #[cfg(test)]
 mod runs;
 #[cfg(test)]

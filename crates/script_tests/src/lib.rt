@@ -6,6 +6,8 @@ mod again;
 #[cfg(test)]
 mod limits;
 #[cfg(test)]
+mod loads;
+#[cfg(test)]
 mod notes;
 #[cfg(test)]
 mod plans;

@@ -1,2 +1,0 @@
--- A raised event is no error.
-pub mod Raises
