@@ -38,11 +38,9 @@ pub(crate) fn raise(firmware: &mut Firmware, id: u32, hart: u8) -> Option<u32>
     ensures harts { firmware.new.events.harts ≡ firmware.old.events.harts }
     ensures instances { firmware.new.events.instances ≡ firmware.old.events.instances }
 {
-    let at = instance_of(id, hart);
-    if !firmware.table().has(at) {
+    if !firmware.raise(instance_of(id, hart)) {
         return None;
     }
-    firmware.signal(at);
     Some(id)
 }
 

@@ -2,9 +2,9 @@
 
 mod calls;
 
-ghost use Rattle.std.specs.Prelude.{◌≡◌, ◌<◌, ◌≤◌, length, true, false, slice_set, slice_get, IfOk, MatchOption, is_some, unwrap_or};
+ghost use Rattle.std.specs.Prelude.{◌≡◌, ◌<◌, ◌≤◌, length, true, false, slice_set, slice_get, IfOk, MatchOption, if◌then◌else◌, is_some, unwrap_or};
 ghost use Rattle.sse_base.specs.Codes.{is_success};
-ghost use Rattle.sse_base.specs.Events.{IsOnBoard, signal};
+ghost use Rattle.sse_base.specs.Events.{IsOnBoard, is_on_board, signal};
 ghost use Rattle.sse_base.specs.Contexts.{with_pc};
 ghost use Rattle.sse_base.specs.Words.{load, store, is_word};
 ghost use Rattle.sse_base.specs.Machine.{reach, placed, stack_of};
@@ -171,7 +171,26 @@ impl Firmware {
         self.signal_at(place);
     }
 
-    /// The same for an instance that was looked up before. Where one is pending already nothing changes.
+    /// Makes an instance pending where the board has it, and says whether it has; else nothing changes.
+    pub fn raise(&mut self, at: Instance) -> bool
+        ensures there { result ≡ is_on_board at self.old.events }
+        ensures next { self.new ≡ record self.old {
+          events =
+              if is_on_board at self.old.events then signal at self.old.events else self.old.events;
+        } }
+        ensures harts { self.new.events.harts ≡ self.old.events.harts }
+        ensures instances { self.new.events.instances ≡ self.old.events.instances }
+    {
+        if !self.table.has(at) {
+            return false;
+        }
+        let place = self.table.place_of(at);
+        self.signal_at(place);
+        true
+    }
+
+    /// Makes an instance that was looked up before pending. Where it is pending already nothing changes.
+    #[inline(always)]
     #[tactic(auto, using(crate::proofs::Keeps::mark_keeps, crate::proofs::Queues::still_pending))]
     fn signal_at(&mut self, place: Place)
         requires { IsPlace place self.old.events.instances }
