@@ -9,7 +9,7 @@ ghost use Rattle.board_ops.specs.Executed.{Executes};
 
 use crate::registers::{put, read, returned};
 use board_plan::{Op, Reg, StepNote};
-use sbi_sse::{Firmware, Privilege};
+use sbi_sse::{Firmware, Privilege, SbiCode};
 
 /// Whether an op is illegal in a hart's mode: user mode sees no register but a6 and a7, and makes no call, return,
 /// acknowledgement or unplugging (RISC-V Privileged Specification, in this project's profile).
@@ -146,15 +146,20 @@ fn sbi(firmware: &mut Firmware, hart: u8, eid: u64, fid: u64, args: [u64; 5], no
     ensures { Executes hart firmware.old firmware.new note.new
         (sbi hart eid fid args firmware.old.stacks (reach hart firmware.old)) }
 {
-    let mut written = [0; 10];
-    let code = firmware.answer(hart, eid, fid, args, &mut written);
     *note = StepNote::Call {
         eid,
         fid,
         args,
-        code,
-        written,
+        code: SbiCode::Success,
+        written: [0; 10],
     };
+    let mut answer = SbiCode::Success;
+    if let StepNote::Call { written, .. } = note {
+        answer = firmware.answer(hart, eid, fid, args, written);
+    }
+    if let StepNote::Call { code, .. } = note {
+        *code = answer;
+    }
 }
 
 /// Executes an op of a hart that is past it already, and notes what it did. `ack` and `unplug` reach further than the
