@@ -1,6 +1,6 @@
 //! A tally of fates.
 
-ghost use Rattle.std.specs.Prelude.{◌≡◌, [], ◌∷◌, ◌++◌, List};
+ghost use Rattle.std.specs.Prelude.{◌≡◌, [], ◌∷◌, ◌++◌, List, false};
 ghost use Rattle.board_plan.specs.Plans.{IsPlan};
 ghost use Rattle.board_plan.specs.Run.{Noted};
 ghost use Rattle.board_plan.specs.Fates.{fates_of};
@@ -26,6 +26,16 @@ fn raise(count: &mut u32)
     ensures { count.new ≡ more count.old }
 {
     *count = count.saturating_add(1);
+}
+
+/// Whether a note may change a tally: most notes of a run don't.
+fn tells_of_an_error(note: &StepNote) -> bool
+    ensures { (t : Tally) → result ≡ false → with_note note.now t ≡ t }
+{
+    match *note {
+        StepNote::Error { .. } | StepNote::Check { .. } | StepNote::Invalidate { .. } => true,
+        _ => false,
+    }
 }
 
 impl Tally {
@@ -57,14 +67,18 @@ impl Tally {
     }
 
     /// Counts a note, which is the next of a run.
+    #[inline(always)]
     pub fn count(&mut self, note: &StepNote)
         ensures { (plan : Plan) (ns : List Noted) (by : Step) → Tallies plan ns self.old → IsNext plan ns note.now
             → Tallies plan (ns ++ record { by = by; note = note.now } ∷ []) self.new }
     {
-        self.add(note);
+        if tells_of_an_error(note) {
+            self.add(note);
+        }
     }
 
     /// Does what a note says, whatever it is.
+    #[inline(never)]
     fn add(&mut self, note: &StepNote)
         ensures { self.new ≡ with_note note.now self.old }
     {
