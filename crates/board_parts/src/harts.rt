@@ -13,6 +13,14 @@ use crate::parts::Parts;
 use board_ops::{is_illegal, pass, step};
 use board_plan::{Op, StepNote};
 
+/// Notes that an event is delivered.
+#[inline(never)]
+fn delivered(id: u32, note: &mut StepNote)
+    ensures { note.new ≡ StepNote.Deliver id }
+{
+    *note = StepNote::Deliver { id };
+}
+
 impl Parts {
     /// Acknowledges a bank's block, where the hart's mode allows it.
     fn on_ack(&mut self, hart: u8, bank: u8, note: &mut StepNote)
@@ -116,7 +124,7 @@ impl Parts {
         }
         outcome.published = None;
         if let Some(at) = self.firmware.deliver(hart) {
-            outcome.note = StepNote::Deliver { id: at.id().0 };
+            delivered(at.id().0, &mut outcome.note);
             return true;
         }
         self.on_op(hart, &mut outcome.note)

@@ -20,7 +20,7 @@ returns-in-Some-deliver-clause-acts c =
     (c.due.ensures.which plan s h ∙ c.in_default.is) (sym c.in-Some-deliver.is ∙ c.deliver.ensures.which)
     (record { index = refl; decls = refl; budgets = refl; counts = refl; limits = refl; reporters = refl }) refl
     (MatchOption-at_some _ _ c.in-Some-deliver.at c.in-Some-deliver.is c.deliver.ensures.next)
-    (ap (λ (id : EventId). outcome_of (note.Deliver id.0) None) c.id.ensures)
+    (ap (λ n. outcome_of n None) c.delivered.ensures ∙ ap (λ (id : EventId). outcome_of (note.Deliver id.0) None) c.id.ensures)
 
 pub returns-clause-acts : goal.returns-clause-acts
 returns-clause-acts c =
