@@ -4,3 +4,4 @@ pub mod AtReporters
 pub mod Homeless
 pub mod MadeOf
 pub mod Searching
+pub mod Spanned

@@ -131,3 +131,28 @@ pub waits_first : (h : ℕ) (plan : Plan) (banks : List BankState) (many : ℕ) 
 unfolding first_bank waits_below
 waits_first h plan banks many waiting all is =
     ap (λ n. find (waits_at h plan banks) (range_with_len 0 n)) all ∙ is
+
+-- where no bank so far waits, none is found
+pub waits_none : (h : ℕ) (plan : Plan) (banks : List BankState) (n : ℕ)
+    → ((k : ℕ) → k < n → passes (is_waiting h plan k) (slice_get plan.banks k) (slice_get banks k) ≡ false)
+    → waits_below h plan banks n ≡ None
+unfolding waits_below
+waits_none h plan banks n none = find_none (waits_at h plan banks) 0 n (λ k low. none k (omega (arith, low)))
+
+none_more : (o : Option ℕ) → option_or o None ≡ o
+none_more None = refl
+none_more (Some bank) = refl
+
+-- where no bank of those that follow waits, what was found is so with them
+pub waits_on : (h : ℕ) (plan : Plan) (banks : List BankState) (n more : ℕ) (before : Option ℕ)
+    → waits_below h plan banks n ≡ before
+    → ((k : ℕ) → n ≤ k → passes (is_waiting h plan k) (slice_get plan.banks k) (slice_get banks k) ≡ false)
+    → waits_below h plan banks (n + more) ≡ before
+waits_on h plan banks n zero before is none = ap (waits_below h plan banks) (omega arith) ∙ is
+waits_on h plan banks n (suc more) before is none =
+    let this : Option ℕ = cond (waits_at h plan banks (n + more)) (Some (n + more)) None in
+    ap (waits_below h plan banks) (omega arith) ∙ waits_more h plan banks (n + more)
+    ∙ ap (λ o. option_or o this) (waits_on h plan banks n more before is none)
+    ∙ ap (option_or before) (cond-false (waits_at h plan banks (n + more)) (Some (n + more)) None
+    (none (n + more) (omega arith)))
+    ∙ none_more before

@@ -67,11 +67,9 @@ impl Parts {
         ensures which { (plan : Plan) (s : BoardState) → Shows plan s self.now → bank_due hart plan s.banks ≡ result }
         ensures there { IfSome result (λ at. at < length self.now.banks.items) }
     {
-        if !self.homes[hart as usize] {
-            return None;
-        }
+        let span = self.homes[hart as usize];
         let mut waiting = None;
-        for at in 0..self.banks.len() {
+        for at in span.first as usize..span.end as usize {
             if self.is_draining(hart, at) {
                 return Some(at as u8);
             }

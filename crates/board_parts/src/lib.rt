@@ -5,6 +5,7 @@
 mod banks;
 mod counting;
 mod harts;
+mod homes;
 mod looks;
 mod making;
 mod outcome;

@@ -1,6 +1,6 @@
 //! How the parts of a board are made of its plan.
 
-ghost use Rattle.std.specs.Prelude.{◌≡◌, ◌≤◌, ◌<◌, ℕ, true, Some, All, IfOk, IsTrue, length, map, replicate, slice_get};
+ghost use Rattle.std.specs.Prelude.{◌≡◌, ◌≤◌, ◌<◌, ℕ, true, Some, All, IfOk, length, map, replicate, slice_get};
 ghost use Rattle.std.specs.List.{range_with_len};
 ghost use Rattle.reri_fields.specs.Drain.{bank_start};
 ghost use Rattle.reri_bank.specs.Registers.{origin_of as origin_from};
@@ -8,11 +8,11 @@ ghost use Rattle.board_plan.specs.declared.plan.RecDecl.{RecDecl};
 ghost use Rattle.board_plan.specs.State.{bank_plan, budget_of, no_counts, origin_of, start_of, start_places, start_state};
 ghost use Rattle.board_plan.specs.Plans.{IsPlan};
 ghost use Rattle.board_bank.specs.Standing.{StandsFor};
-ghost use Rattle.board_parts.specs.Homes.{are_flagged};
 ghost use Rattle.board_parts.specs.Shows.{AreBanks, Shows};
 
 use crate::counting::HartCounts;
-use crate::parts::{HARTS, Parts};
+use crate::homes::spans;
+use crate::parts::Parts;
 use crate::progress::Progress;
 use board_bank::BoardBank;
 use board_ops::OpIndex;
@@ -162,17 +162,6 @@ fn banks(alloc: Global, plan: &Plan) -> Result<Vec<BoardBank>, NoMemory>
     Ok(banks.into_vec())
 }
 
-/// A flag for each hart, which is up where the hart is the home of one of these banks.
-fn homes(decls: &[BankDecl]) -> [bool; HARTS]
-    ensures { IsTrue (are_flagged decls.now result) }
-{
-    let mut homes = [false; HARTS];
-    for decl in decls {
-        homes[decl.home as usize] = true;
-    }
-    homes
-}
-
 // ---- All parts ----
 
 /// The firmware at its start.
@@ -194,7 +183,7 @@ impl Parts {
         let firmware = firmware(alloc, plan)?;
         let index = OpIndex::new(alloc, plan.ops.as_slice())?;
         let decls = plan.banks.copy(alloc)?;
-        let homes = homes(decls.as_slice());
+        let homes = spans(decls.as_slice());
         let banks = banks(alloc, plan)?;
         let budgets = budgets(alloc, plan.harts, plan.starts.as_slice())?;
         let counts = fresh_counts(alloc, plan.harts)?;

@@ -1,33 +1,31 @@
 //! The parts of a board.
 
-ghost use Rattle.std.specs.Prelude.{◌≡◌, ◌≤◌, IsTrue, length};
-ghost use Rattle.board_parts.specs.Homes.{are_flagged};
+ghost use Rattle.std.specs.Prelude.{◌≡◌, ◌≤◌, length};
+ghost use Rattle.board_parts.specs.Homes.{Spans};
 
 use crate::counting::HartCounts;
+use crate::homes::{HARTS, Span};
 use crate::progress::Progress;
 use board_bank::BoardBank;
 use board_ops::OpIndex;
 use board_plan::BankDecl;
 use sbi_sse::Firmware;
 
-/// How many numbers there are for harts: they have eight bits.
-pub(crate) const HARTS: usize = 256;
-
-/// The parts of a board: all that its steps look at and change. There are at most four banks, and a hart
-/// that is no bank's home has no flag among `homes`.
+/// The parts of a board: all that its steps look at and change. There are at most four banks, and
+/// `homes` has for each hart a span that holds the banks whose home it is.
 #[derive(Drop)]
 pub struct Parts {
     pub(crate) firmware: Firmware,
     pub(crate) index: OpIndex,
     pub(crate) decls: Vec<BankDecl>,
-    pub(crate) homes: [bool; HARTS],
+    pub(crate) homes: [Span; HARTS],
     pub(crate) banks: Vec<BoardBank>,
     pub(crate) budgets: Vec<u16>,
     pub(crate) counts: Vec<HartCounts>,
     pub(crate) limits: Vec<u16>,
     pub(crate) reporters: Vec<Progress>,
     ghost declared: { length decls.items ≡ length banks.items },
-    ghost homed: { IsTrue (are_flagged decls.items homes) },
+    ghost homed: { Spans (length decls.items) decls.items homes },
     ghost few: { length banks.items ≤ 4 },
     ghost budgeted: { length budgets.items ≡ firmware.events.harts },
     ghost counted: { length counts.items ≡ firmware.events.harts },
