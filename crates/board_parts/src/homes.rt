@@ -22,7 +22,11 @@ impl Span {
         ensures first { result.first ≡ if self.first == self.end then at else self.first }
         ensures end { result.end ≡ at + 1 }
     {
-        let first = if self.first == self.end { at } else { self.first };
+        let first = if self.first == self.end {
+            at
+        } else {
+            self.first
+        };
         Span { first, end: at + 1 }
     }
 }

@@ -90,6 +90,26 @@ next_digit old n b small far some =
     ∙ ap (λ (d : ℕ). old ++ ((codes "0x" ++ digits 16 false d) ++ last_glyph m ∷ [])) (sym shorter)
     ∙ ap (λ (ds : List ℕ). old ++ (codes "0x" ++ ds)) (sym more)
 
+-- a number and its next two digits
+pub next_pair : (old : List ℕ) (n b : ℕ) → n < 2 ^ 64 → 8 ≤ b → 0 < n / 2 ^ b
+    → ((old ++ hexadecimal (n / 2 ^ b)) ++ digit_glyph false (n / 2 ^ (b - 4) % 16) ∷ [])
+    ++ digit_glyph false (n / 2 ^ (b - 8) % 16) ∷ []
+    ≡ old ++ hexadecimal (n / 2 ^ (b - 8))
+next_pair old n b small far some =
+    let further : 4 ≤ b = omega (arith, far) in
+    let low : ℕ = digit_glyph false (n / 2 ^ (b - 8) % 16) in
+    let twice : b - 4 - 4 ≡ b - 8 = omega (arith, far) in
+    ap (λ (ds : List ℕ). ds ++ low ∷ []) (next_digit old n b small further some)
+    ∙ ap (λ (i : ℕ). (old ++ hexadecimal (n / 2 ^ (b - 4))) ++ digit_glyph false (n / 2 ^ i % 16) ∷ []) (sym twice)
+    ∙ next_digit old n (b - 4) small (omega (arith, far)) (still_some n b further some)
+    ∙ ap (λ (i : ℕ). old ++ hexadecimal (n / 2 ^ i)) twice
+
+pub still_more : (n b : ℕ) → 8 ≤ b → 0 < n / 2 ^ b → 0 < n / 2 ^ (b - 8)
+still_more n b far some =
+    let twice : b - 4 - 4 ≡ b - 8 = omega (arith, far) in
+    let once : 0 < n / 2 ^ (b - 4) = still_some n b (omega (arith, far)) some in
+    omega (arith, still_some n (b - 4) (omega (arith, far)) once, ap (λ (i : ℕ). n / 2 ^ i) twice)
+
 -- one digit
 pub one_digit : (n : ℕ) → n < 16 → codes "0x" ++ digit_glyph false n ∷ [] ≡ hexadecimal n
 unfolding hexadecimal

@@ -1,5 +1,5 @@
 //! Lines that go to a sink, each in one write.
-ghost use Rattle.std.specs.Prelude.{◌≡◌, ◌+◌, ◌<◌, ◌≤◌, ◌++◌, [], ◌∷◌, length, decimal};
+ghost use Rattle.std.specs.Prelude.{◌≡◌, ◌+◌, ◌/◌, ◌%◌, ◌^◌, ◌<◌, ◌≤◌, ◌++◌, [], ◌∷◌, length, decimal};
 ghost use Rattle.std.specs.Fmt.{signed_decimal};
 ghost use Rattle.ras_io.specs.Causes.{HasCause, Puts, one_more};
 ghost use Rattle.ras_text.specs.Numbers.{hexadecimal};
@@ -161,6 +161,29 @@ fn put_first_digit<K: Sink>(line: &mut Line<'_, K>, digit: u64)
     put_byte(line, glyph(digit));
 }
 
+// appends `0x` and the first digit of a number that isn't 0, or the first two, and says how many bits stand behind
+// them: whole bytes
+#[inline]
+fn put_first_digits<K: Sink>(line: &mut Line<'_, K>, n: u64) -> u32
+    requires some { 0 < n }
+    requires room { length (text_of line.old) + 18 ≤ 512 }
+    ensures text { text_of line.new ≡ text_of line.old ++ hexadecimal (n / 2 ^ result) }
+    ensures room { length (text_of line.new) + result / 4 ≤ length (text_of line.old) + 18 }
+    ensures some { 0 < n / 2 ^ result }
+    ensures bytes { result % 8 ≡ 0 }
+    ensures few { result ≤ 60 }
+    ensures sink { sink_of line.new ≡ sink_of line.old }
+    ensures same_reference { SameSink line.new line.old }
+{
+    let behind = bits_behind(n);
+    put_first_digit(line, n >> behind);
+    if behind % 8 == 0 {
+        return behind;
+    }
+    put_byte(line, glyph((n >> (behind - 4)) % 16));
+    behind - 4
+}
+
 // appends a number that isn't 0 in hexadecimal, from its first digit on
 #[inline(never)]
 fn put_digits<K: Sink>(line: &mut Line<'_, K>, n: u64)
@@ -171,10 +194,10 @@ fn put_digits<K: Sink>(line: &mut Line<'_, K>, n: u64)
     ensures sink { sink_of line.new ≡ sink_of line.old }
     ensures same_reference { SameSink line.new line.old }
 {
-    let mut behind = bits_behind(n);
-    put_first_digit(line, n >> behind);
+    let mut behind = put_first_digits(line, n);
     while behind > 0 {
-        behind -= 4;
+        put_byte(line, glyph((n >> (behind - 4)) % 16));
+        behind -= 8;
         put_byte(line, glyph((n >> behind) % 16));
     }
 }

@@ -9,7 +9,7 @@ invariant-loop-behind g l = record {
   text : text_of l.line ≡ text_of l.fn.line ++ hexadecimal (l.n / 2 ^ l.behind);
   room : length (text_of l.line) + l.behind / 4 ≤ length (text_of l.fn.line) + 18;
   some : 0 < l.n / 2 ^ l.behind;
-  places : l.behind % 4 ≡ 0;
+  places : l.behind % 8 ≡ 0;
   few : l.behind ≤ 60;
   sink : sink_of l.line ≡ sink_of l.fn.line;
   same_reference : SameSink l.line l.fn.line;
