@@ -34,7 +34,7 @@ module _ {K : Type 0} (written : K → Option (List ℕ)) (faults writes : K →
 
   -- the sink stays the same
   pub same-trace : (ns : List Noted) (w v : Tracer K) → ToldAll (Traces written faults writes) ns w v → SameTrace v w
-  same-trace [] w v told = sym (ap (λ (x : Tracer K). x.sink.ghost_name) told)
+  same-trace [] w v told = sym (ap (λ (x : Tracer K). x.line.sink.ghost_name) told)
   same-trace (n ∷ ns) w v told = same-trace ns told.0 v told.2 ∙ told.1.same_trace
 
   -- a whole trace, from the first step on

@@ -1,18 +1,18 @@
 -- What a tracer makes of each step that it is told of. This project's own, over the texts of the board book; public
 -- clauses cite it.
 use Rattle.std.specs.Prelude.{◌≡◌, ℕ, List, [], ◌∷◌, Option, Result}
-use Rattle.std.specs.Borrow.{MutBor}
 use Rattle.ras_io.specs.Causes.{one_more}
 use Rattle.ras_io.specs.declared.faults.SinkFault.{SinkFault}
 use Rattle.board_plan.specs.Run.{Noted}
 use Rattle.board_plan.specs.Text.{trace_line}
 use Rattle.board_report.specs.declared.tracer.Tracer.{Tracer}
 use Rattle.board_report.specs.Writing.{Grows, State}
+use Rattle.ras_text.specs.Lines as line
 
 module _ {K : Type 0} where
   -- the sink that a tracer writes to, the number of the next step, and what came of its writes
   abbrev pub sink_of : Tracer K → K
-  sink_of tracer = tracer.sink.now
+  sink_of tracer = line.sink_of tracer.line
 
   abbrev pub number_of : Tracer K → ℕ
   number_of tracer = tracer.number
@@ -20,13 +20,9 @@ module _ {K : Type 0} where
   abbrev pub outcome_of : Tracer K → Result (Unit {0}) SinkFault
   outcome_of tracer = tracer.outcome
 
-  -- it borrows this sink
-  abbrev pub Borrows : Tracer K → MutBor K → Type 0
-  Borrows tracer sink = tracer.sink.ghost_name ≡ sink.ghost_name
-
   -- both write to the same sink
   abbrev pub SameTrace : Tracer K → Tracer K → Type 0
-  SameTrace new old = new.sink.ghost_name ≡ old.sink.ghost_name
+  SameTrace new old = line.SameSink new.line old.line
 
   -- how far a tracer is, by what a sink of its kind tells
   abbrev pub traced : (K → Option (List ℕ)) → (K → ℕ) → (K → ℕ) → Tracer K → State

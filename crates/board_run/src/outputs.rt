@@ -24,6 +24,7 @@ use board_report::{Tracer, report_brief};
 use board_script::{moved, write};
 use ras_device::ErrorDevice;
 use ras_io::{NoMemory, Sink, SinkFault};
+use ras_text::Line;
 use std::alloc::Global;
 
 /// A board that was played, and what came of the writes of its trace.
@@ -55,8 +56,10 @@ fn play_told<K: Sink, D: ErrorDevice>(
 {
     let board = play_plan(alloc, plan, devices, tracer)?;
     let _steps = board.steps();
-    let written = tracer.outcome();
-    Ok(Traced { board, written })
+    Ok(Traced {
+        board,
+        written: tracer.outcome,
+    })
 }
 
 /// Plays a plan with these devices, and writes the trace of its run as it goes. `NoMemory` comes before anything is
@@ -75,7 +78,11 @@ fn play_traced<K: Sink, D: ErrorDevice>(
     ensures cause { IfOk result (λ t. HasCause (K.faults sink.old) (K.faults sink.new) t.written) }
     ensures silent { OnErr result (sink.new ≡ sink.old) }
 {
-    let mut tracer = Tracer::new(sink);
+    let mut tracer = Tracer {
+        line: Line::new(sink),
+        number: 1,
+        outcome: Ok(()),
+    };
     play_told(alloc, plan, devices, &mut tracer)
 }
 
