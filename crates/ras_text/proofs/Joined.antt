@@ -15,7 +15,7 @@ is_whole_word w = is_word w && list_all is_word_byte w
 abbrev pub is_line_byte : ℕ → Bool
 is_line_byte b = not (b == 10) && not (b == 13)
 
-both : (a b : Bool) → (a && b) ≡ true → (a ≡ true) × (b ≡ true)
+pub both : (a b : Bool) → (a && b) ≡ true → (a ≡ true) × (b ≡ true)
 both true b e = (refl, e)
 both false b e = cc
 

@@ -1,12 +1,12 @@
 -- What a contract sees of a line under way. The rules are this project's own.
-use Rattle.std.specs.Prelude.{◌≡◌, ℕ, List}
+use Rattle.std.specs.Prelude.{◌≡◌, ℕ, List, take}
 use Rattle.std.specs.Borrow.{MutBor}
 use Rattle.ras_text.specs.declared.line.Line.{Line}
 
 module _ {K : Type 0} where
   -- the text of the line so far
   abbrev pub text_of : Line K → List ℕ
-  text_of line = line.text.items
+  text_of line = take line.len line.bytes
 
   -- the sink that the line goes to
   abbrev pub sink_of : Line K → K

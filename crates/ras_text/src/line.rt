@@ -1,13 +1,12 @@
 //! Lines that go to a sink, each in one write.
-ghost use Rattle.std.specs.Prelude.{◌≡◌, ◌+◌, ◌/◌, ◌%◌, ◌^◌, ◌<◌, ◌≤◌, ◌++◌, [], ◌∷◌, length, decimal};
+ghost use Rattle.std.specs.Prelude.{◌≡◌, ◌+◌, ◌<◌, ◌≤◌, ◌++◌, [], ◌∷◌, length, decimal};
 ghost use Rattle.std.specs.Fmt.{signed_decimal};
 ghost use Rattle.ras_io.specs.Causes.{HasCause, Puts, one_more};
 ghost use Rattle.ras_text.specs.Numbers.{hexadecimal};
 ghost use Rattle.ras_text.specs.Lines.{text_of, sink_of, Borrows, SameSink};
 
-use crate::hex::{bits_behind, glyph};
-use arrayvec::ArrayVec;
-use itoa::Buffer;
+use crate::hex::{digit_count, glyph, write_hex};
+use itoa::{Buffer, write_digits};
 use ras_io::{Sink, SinkFault};
 
 // the bytes of a line, and its newline
@@ -18,7 +17,8 @@ const ROOM: usize = 513;
 #[derive(Drop)]
 pub struct Line<'a, K: Sink> {
     sink: &'a mut K,
-    text: ArrayVec<u8, ROOM>,
+    bytes: [u8; ROOM],
+    len: usize,
 }
 
 impl<'a, K: Sink> Line<'a, K> {
@@ -30,7 +30,8 @@ impl<'a, K: Sink> Line<'a, K> {
     {
         Line {
             sink,
-            text: ArrayVec::new(),
+            bytes: [0; ROOM],
+            len: 0,
         }
     }
 
@@ -45,8 +46,9 @@ impl<'a, K: Sink> Line<'a, K> {
         ensures one_write { K.writes (sink_of self.new) ≡ one_more (K.writes (sink_of self.old)) }
         ensures same_reference { SameSink self.new self.old }
     {
-        self.text.push(b'\n');
-        let result = self.sink.write(self.text.as_slice());
+        let end = self.len;
+        self.bytes[end] = b'\n';
+        let result = self.sink.write(&self.bytes[..end + 1]);
         self.clear();
         result
     }
@@ -57,7 +59,7 @@ impl<'a, K: Sink> Line<'a, K> {
         ensures sink { sink_of self.new ≡ sink_of self.old }
         ensures same_reference { SameSink self.new self.old }
     {
-        self.text.clear();
+        self.len = 0;
     }
 }
 
@@ -69,7 +71,9 @@ pub fn put_byte<K: Sink>(line: &mut Line<'_, K>, byte: u8)
     ensures sink { sink_of line.new ≡ sink_of line.old }
     ensures same_reference { SameSink line.new line.old }
 {
-    line.text.push(byte);
+    let end = line.len;
+    line.bytes[end] = byte;
+    line.len = end + 1;
 }
 
 /// Appends a word to the line under way, which has to have room for it.
@@ -80,9 +84,9 @@ pub fn put_word<K: Sink>(line: &mut Line<'_, K>, word: &[u8])
     ensures sink { sink_of line.new ≡ sink_of line.old }
     ensures same_reference { SameSink line.new line.old }
 {
-    if line.text.try_extend_from_slice(word).is_err() {
-        unreachable!()
-    }
+    let end = line.len + word.len();
+    line.bytes[line.len..end].copy_from_slice(word);
+    line.len = end;
 }
 
 /// Appends a number in decimal to the line under way, which has to have room for 20 bytes.
@@ -97,7 +101,7 @@ pub fn put_dec<K: Sink>(line: &mut Line<'_, K>, n: u64)
     if n < 10 {
         put_byte(line, b'0' + n as u8);
     } else {
-        put_numeral(line, n);
+        put_digits(line, n);
     }
 }
 
@@ -128,65 +132,30 @@ pub fn put_hex<K: Sink>(line: &mut Line<'_, K>, n: u64)
     ensures same_reference { SameSink line.new line.old }
 {
     if n < 16 {
-        put_first_digit(line, n);
+        put_word(line, &[b'0', b'x', glyph(n)]);
     } else {
-        put_digits(line, n);
+        put_hex_digits(line, n);
     }
 }
 
-// appends the digits of a number
+// appends a number of two digits or more in decimal
 #[inline(never)]
-fn put_numeral<K: Sink>(line: &mut Line<'_, K>, n: u64)
-    requires { length (text_of line.old) + 20 ≤ 512 }
+fn put_digits<K: Sink>(line: &mut Line<'_, K>, n: u64)
+    requires some { 0 < n }
+    requires room { length (text_of line.old) + 20 ≤ 512 }
     ensures text { text_of line.new ≡ text_of line.old ++ decimal n }
     ensures room { length (text_of line.new) ≤ length (text_of line.old) + 20 }
     ensures sink { sink_of line.new ≡ sink_of line.old }
     ensures same_reference { SameSink line.new line.old }
 {
-    put_word(line, Buffer::new().format(n).as_bytes());
+    let end = line.len + n.ilog10() as usize + 1;
+    let _first = write_digits(n, &mut line.bytes, end);
+    line.len = end;
 }
 
-// appends `0x` and a first digit
-#[inline]
-fn put_first_digit<K: Sink>(line: &mut Line<'_, K>, digit: u64)
-    requires digit { digit < 16 }
-    requires room { length (text_of line.old) + 3 ≤ 512 }
-    ensures text { text_of line.new ≡ text_of line.old ++ hexadecimal digit }
-    ensures room { length (text_of line.new) ≡ length (text_of line.old) + 3 }
-    ensures sink { sink_of line.new ≡ sink_of line.old }
-    ensures same_reference { SameSink line.new line.old }
-{
-    put_byte(line, b'0');
-    put_byte(line, b'x');
-    put_byte(line, glyph(digit));
-}
-
-// appends `0x` and the first digit of a number that isn't 0, or the first two, and says how many bits stand behind
-// them: whole bytes
-#[inline]
-fn put_first_digits<K: Sink>(line: &mut Line<'_, K>, n: u64) -> u32
-    requires some { 0 < n }
-    requires room { length (text_of line.old) + 18 ≤ 512 }
-    ensures text { text_of line.new ≡ text_of line.old ++ hexadecimal (n / 2 ^ result) }
-    ensures room { length (text_of line.new) + result / 4 ≤ length (text_of line.old) + 18 }
-    ensures some { 0 < n / 2 ^ result }
-    ensures bytes { result % 8 ≡ 0 }
-    ensures few { result ≤ 60 }
-    ensures sink { sink_of line.new ≡ sink_of line.old }
-    ensures same_reference { SameSink line.new line.old }
-{
-    let behind = bits_behind(n);
-    put_first_digit(line, n >> behind);
-    if behind % 8 == 0 {
-        return behind;
-    }
-    put_byte(line, glyph((n >> (behind - 4)) % 16));
-    behind - 4
-}
-
-// appends a number that isn't 0 in hexadecimal, from its first digit on
+// appends a number of two digits or more in hexadecimal
 #[inline(never)]
-fn put_digits<K: Sink>(line: &mut Line<'_, K>, n: u64)
+fn put_hex_digits<K: Sink>(line: &mut Line<'_, K>, n: u64)
     requires some { 0 < n }
     requires room { length (text_of line.old) + 18 ≤ 512 }
     ensures text { text_of line.new ≡ text_of line.old ++ hexadecimal n }
@@ -194,10 +163,10 @@ fn put_digits<K: Sink>(line: &mut Line<'_, K>, n: u64)
     ensures sink { sink_of line.new ≡ sink_of line.old }
     ensures same_reference { SameSink line.new line.old }
 {
-    let mut behind = put_first_digits(line, n);
-    while behind > 0 {
-        put_byte(line, glyph((n >> (behind - 4)) % 16));
-        behind -= 8;
-        put_byte(line, glyph((n >> behind) % 16));
-    }
+    let start = line.len;
+    let end = start + 2 + digit_count(n);
+    line.bytes[start] = b'0';
+    line.bytes[start + 1] = b'x';
+    let _first = write_hex(n, &mut line.bytes, end);
+    line.len = end;
 }
