@@ -114,8 +114,10 @@ impl BoardBank {
 
     /// Acknowledges the block that is published, and says whether there was one.
     pub fn acknowledge(&mut self) -> bool
-        ensures { (plan : BankPlan) (s : BankState) → StandsFor plan s self.old
+        ensures makes { (plan : BankPlan) (s : BankState) → StandsFor plan s self.old
             → Makes plan s Acknowledges (Acknowledged result) self.new }
+        ensures bank { self.new.bank ≡ self.old.bank }
+        ensures drain { self.new.drain ≡ self.old.drain }
     {
         self.slot.acknowledge()
     }

@@ -1,5 +1,5 @@
 -- Where a hart's span doesn't reach, no bank's home is the hart, so nothing is due there.
-use Rattle.std.proofs.Common.{◌≡◌, ℕ, ◌<◌, ◌≤◌, ◌==◌, ◌&&◌, Bool, false, List, length, slice_get, Option, Some, None, is_some, refl, inl, inr, ap, ◌∙◌, arith}
+use Rattle.std.proofs.Common.{◌≡◌, ℕ, ◌<◌, ◌≤◌, ◌==◌, ◌&&◌, Bool, false, List, slice_get, Option, Some, None, is_some, refl, inl, inr, ap, ◌∙◌, arith}
 use Rattle.std.proofs.lemmas.Bool.{cases_eq, ne_eqb}
 use Rattle.std.proofs.lemmas.Option.{slice_get_within}
 use Rattle.reri_fields.specs.Drain.{BankState, may_begin}

@@ -72,6 +72,12 @@ one_bank_at plan banks at d b there declared stands made =
 abbrev pub fresh_banks : Plan → List BankState
 fresh_banks plan = map (λ d. bank_start) plan.banks
 
+pub fresh_bank_at : (plan : Plan) (i : ℕ) (d : BankDecl) → slice_get plan.banks i ≡ Some d
+    → slice_get (fresh_banks plan) i ≡ Some bank_start
+fresh_bank_at plan i d known =
+    slice_get-map (λ (d : BankDecl). bank_start) plan.banks i
+    ∙ ap (option_map (λ (d : BankDecl). bank_start)) known
+
 pub all_made : (plan : Plan) (banks : List BankParts) → length banks ≡ length plan.banks → AreMade plan banks
     → AreBanks plan (fresh_banks plan) banks
 all_made plan banks there made =
@@ -80,8 +86,7 @@ all_made plan banks there made =
       there = there;
       each = λ i d x b known state here.
           let it : bank_start ≡ x =
-          same_Some bank_start x (sym (slice_get-map (λ (d : BankDecl). bank_start) plan.banks i
-          ∙ ap (option_map (λ (d : BankDecl). bank_start)) known) ∙ state) in
+          same_Some bank_start x (sym (fresh_bank_at plan i d known) ∙ state) in
           subst (λ (y : BankState). StandsFor (bank_plan i d plan.recs) y b) it (made.each i d b known here);
     }
 

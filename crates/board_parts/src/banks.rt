@@ -62,8 +62,8 @@ impl Parts {
         Some(at as u8)
     }
 
-    /// The bank that a hart drains next: the first whose drain is under way, else the first whose drain may begin.
-    pub(crate) fn due(&self, hart: u8) -> Option<u8>
+    /// The bank that a hart drains next, by a walk over those of its span.
+    fn first_due(&self, hart: u8) -> Option<u8>
         ensures which { (plan : Plan) (s : BoardState) → Shows plan s self.now → bank_due hart plan s.banks ≡ result }
         ensures there { IfSome result (λ at. at < length self.now.banks.items) }
     {
@@ -78,6 +78,17 @@ impl Parts {
         waiting
     }
 
+    /// The bank that a hart drains next: the first whose drain is under way, else the first whose drain may begin.
+    pub(crate) fn due(&self, hart: u8) -> Option<u8>
+        ensures which { (plan : Plan) (s : BoardState) → Shows plan s self.now → bank_due hart plan s.banks ≡ result }
+        ensures there { IfSome result (λ at. at < length self.now.banks.items) }
+    {
+        if !self.heard {
+            return None;
+        }
+        self.first_due(hart)
+    }
+
     // ---- What is done at a bank ----
 
     /// Takes the next phase of a bank's drain. False where no drain is due; then nothing changes.
@@ -90,6 +101,7 @@ impl Parts {
     {
         let at = bank as usize;
         let decl = &self.decls[at];
+        self.heard = true;
         let Some((rec, did)) = self.banks[at].step() else {
             return false;
         };
@@ -130,6 +142,7 @@ impl Parts {
         if at >= self.banks.len() {
             return false;
         }
+        self.heard = true;
         let logged = self.banks[at].report(report);
         *note = StepNote::Error {
             report: *report,

@@ -122,7 +122,7 @@ impl Parts {
         if let Some(bank) = self.due(hart) {
             return self.drain(bank, outcome);
         }
-        outcome.published = None;
+        outcome.forget();
         if let Some(at) = self.firmware.deliver(hart) {
             delivered(at.id().0, &mut outcome.note);
             return true;

@@ -195,6 +195,7 @@ impl Parts {
             decls: decls.into_vec(),
             homes,
             banks,
+            heard: false,
             budgets,
             counts,
             limits,

@@ -23,4 +23,15 @@ impl Outcome {
             published: None,
         }
     }
+
+    /// Forgets what was published; the note stays.
+    #[inline]
+    pub(crate) fn forget(&mut self)
+        ensures note { self.new.note ≡ self.old.note }
+        ensures published { self.new.published ≡ None }
+    {
+        if self.published.is_some() {
+            self.published = None;
+        }
+    }
 }

@@ -78,7 +78,7 @@ impl Parts {
         if !self.count_act(reporter) {
             return false;
         }
-        outcome.published = None;
+        outcome.forget();
         match act {
             Act::Error(report) => {
                 self.on_error(report, &mut outcome.note);

@@ -18,8 +18,8 @@ invariant_of-self c =
       gathers = c.self.invariant.gathers;
     }
 
-pub returns : goal.returns
-returns c =
+pub returns-clause-makes : goal.returns-clause-makes
+returns-clause-makes c =
     λ plan s h.
     let i = c.self.inside in
     let parts : BankParts = record { bank = i.bank; slot = i.slot; drain = i.drain.drain; gather = i.gather } in

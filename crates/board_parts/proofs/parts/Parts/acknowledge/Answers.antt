@@ -23,6 +23,6 @@ returns-clause-takes c =
     let is = bank_is plan s p c.args.bank b h here in
     taken plan s p _ c.args.bank is.decl b c.acknowledge-full.new.self Acknowledges
     (Acknowledged c.acknowledge-full.result) _ h
-    is.declared here (λ x stands there. c.acknowledge-full.ensures (bank_plan c.args.bank is.decl plan.recs) x stands)
+    is.declared here (λ x stands there. c.acknowledge-full.ensures.makes (bank_plan c.args.bank is.decl plan.recs) x stands)
     (record { index = refl; decls = refl; budgets = refl; counts = refl; limits = refl; reporters = refl })
     refl refl refl

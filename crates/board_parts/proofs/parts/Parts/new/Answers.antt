@@ -7,6 +7,7 @@ use Rattle.board_plan.specs.declared.plan.Start.{Start}
 use Rattle.board_plan.specs.State.{budget_of}
 use Rattle.board_ops.specs.Indexes.{Indexes}
 use Rattle.board_parts.proofs.MadeOf.{fresh_are}
+use Rattle.board_parts.proofs.Quiet.{fresh_are_quiet}
 use Rattle.board_parts.proofs.parts.Parts.new.Goals as goal
 
 pub returns : goal.returns
@@ -28,3 +29,7 @@ returns c =
             (ap (λ (rs : List Reporter). length rs) (sym c.as_slice-reporters.ensures));
       };
     }
+
+pub invariant_of-result-clause-quiet : goal.invariant_of-result-clause-quiet
+invariant_of-result-clause-quiet c =
+    λ silent. fresh_are_quiet c.args.plan.now c.in_ok-banks.banks.items c.in_ok-banks.ensures

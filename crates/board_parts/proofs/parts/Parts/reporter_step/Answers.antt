@@ -21,21 +21,23 @@ returns-then-not-count_act-clause-steps c =
 pub returns-in-Error-clause-steps : goal.returns-in-Error-clause-steps
 returns-in-Error-clause-steps c =
     λ plan s h early.
+    rw (c.forget.ensures.published) (
     makes_act plan s c.on_error.new.self c.args.reporter c.args.act (act.Error c.in-Error.report) _
     (c.in-Some.is ∙ ap (λ a. Some a) c.in-Error.is)
     (c.count_act.ensures.wanted plan s h ∙ c.if-not-count_act.false)
     (c.on_error.ensures.takes plan (with_act_counted c.args.reporter s true)
     (subst (λ b. Shows plan (with_act_counted c.args.reporter s b) c.count_act.new.self) c.if-not-count_act.false
     (c.count_act.ensures.shows plan s h))
-    early)
+    early))
 
 pub returns-in-Raise-clause-steps : goal.returns-in-Raise-clause-steps
 returns-in-Raise-clause-steps c =
     λ plan s h early.
+    rw (c.forget.ensures.published) (
     makes_act plan s c.on_raise.new.self c.args.reporter c.args.act
     (act.Raise c.in-Raise.id c.in-Raise.hart) _
     (c.in-Some.is ∙ ap (λ a. Some a) c.in-Raise.is)
     (c.count_act.ensures.wanted plan s h ∙ c.if-not-count_act.false)
     (c.on_raise.ensures.takes plan (with_act_counted c.args.reporter s true)
     (subst (λ b. Shows plan (with_act_counted c.args.reporter s b) c.count_act.new.self) c.if-not-count_act.false
-    (c.count_act.ensures.shows plan s h)))
+    (c.count_act.ensures.shows plan s h))))

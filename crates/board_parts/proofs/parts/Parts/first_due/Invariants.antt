@@ -6,7 +6,7 @@ use Rattle.board_plan.specs.State.{BoardState}
 use Rattle.board_plan.specs.Step.{passes, is_draining}
 use Rattle.board_parts.specs.Shows.{Shows}
 use Rattle.board_parts.specs.Walked.{waits_below}
-use Rattle.board_parts.proofs.parts.Parts.due.Given as goal
+use Rattle.board_parts.proofs.parts.Parts.first_due.Given as goal
 
 abbrev pub invariant-loop-at : goal.invariant-loop-at
 invariant-loop-at l =
