@@ -1,4 +1,3 @@
--- What the view of a hart keeps, and what ranges of words hold.
+-- What the view of a hart keeps.
 pub mod Frames
 pub mod Places
-mod Ranges

@@ -1,9 +1,8 @@
 //! The board's memory.
 
-ghost use Rattle.std.specs.Prelude.{◌≡◌, ◌≤◌, true, unwrap_or, is_some, length, take};
+ghost use Rattle.std.specs.Prelude.{◌≡◌, true, unwrap_or, is_some, length};
 ghost use Rattle.std.specs.Prelude.{if◌then◌else◌};
 ghost use Rattle.sse_base.specs.Words.{is_word, word_index, fresh_memory, load, store, are_words, words_at, put_words};
-ghost use Rattle.sse_base.specs.Calls.{padded};
 
 use std::marker::Model;
 
@@ -73,20 +72,14 @@ impl Memory {
         lo % 8 == 0 && lo >= BASE && lo <= END && count <= (END - lo) / 8
     }
 
-    /// `count` words from the address `lo` on, and zeros up to ten.
-    #[tactic(auto, using(crate::proofs::Ranges::one_more))]
-    pub fn read_words(&self, lo: u64, count: u8) -> [u64; 10]
-        requires few { count ≤ 10 }
-        requires range { are_words lo count ≡ true }
-        ensures padded { result ≡ padded (words_at self.now lo count) }
-        ensures words { take count result ≡ words_at self.now lo count }
+    /// `count` words where they stand, from the address `lo` on.
+    pub fn words_from(&self, lo: u64, count: u8) -> &[u64]
+        requires { are_words lo count ≡ true }
+        ensures words { result.now ≡ words_at self.now lo count }
+        ensures count { length result.now ≡ count }
     {
         let start = ((lo - BASE) / 8) as usize;
-        let mut out = [0; 10];
-        for i in 0..count as usize {
-            out[i] = self.words[start + i];
-        }
-        out
+        &self.words[start..start + count as usize]
     }
 
     /// Writes words from the address `lo` on; all else stays.

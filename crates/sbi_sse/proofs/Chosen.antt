@@ -3,7 +3,6 @@ use Rattle.std.proofs.Common.{◌≡◌, ℕ, ◌<◌, ◌≤◌, Bool, true, fa
 use Rattle.std.specs.Prelude.{filter, if◌then◌else◌, Option, Some, None, ◌&&◌}
 use Rattle.std.proofs.lemmas.Bool.{cases_Bool}
 use Rattle.sse_base.specs.declared.ids.Instance.{Instance}
-use Rattle.sse_base.specs.declared.ids.Instance.TheVariants.{Local, Global}
 use Rattle.sse_base.specs.declared.events.Event.{Event}
 use Rattle.sse_base.specs.declared.events.Slot.{Slot}
 use Rattle.sse_base.specs.Ids.{same_instance, place, may_run_on}

@@ -1,6 +1,6 @@
 -- What each change of the firmware keeps.
 use Rattle.std.proofs.Common.{◌≡◌, ℕ, zero, suc, ◌+◌, ◌<◌, ◌≤◌, Bool, true, false, List, [], ◌∷◌, length, get_or, set, refl, ap, sym, ◌∙◌, arith, inl, inr, subst}
-use Rattle.std.specs.Prelude.{filter, if◌then◌else◌, Option, Some, option_map, unwrap_or, ◌%◌, ◌==◌}
+use Rattle.std.specs.Prelude.{filter, if◌then◌else◌, Some, option_map, unwrap_or, ◌%◌, ◌==◌}
 use Rattle.std.proofs.lemmas.Bool.{cases_Bool, cases_lt}
 use Rattle.std.proofs.lemmas.List.{length-set, get_or-set_same, get_or-set_other, get_or_past}
 use Rattle.std.proofs.lemmas.Bool.Decides.{eqb_tells}

@@ -9,3 +9,4 @@ pub mod Gathered
 pub mod Queues
 pub mod Interrupted
 pub mod Begins
+pub mod Taken

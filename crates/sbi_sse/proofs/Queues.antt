@@ -1,14 +1,13 @@
 -- The queues through the changes of the firmware.
-use Rattle.std.proofs.Common.{◌≡◌, ℕ, zero, suc, ◌+◌, ◌<◌, ◌≤◌, Bool, true, false, cond, List, length, get_or, set, refl, ap, sym, ◌∙◌, subst, arith, inl, inr}
-use Rattle.std.specs.Prelude.{Option, Some, None, option_map, ◌%◌, ◌==◌}
+use Rattle.std.proofs.Common.{◌≡◌, ℕ, zero, suc, ◌+◌, ◌≤◌, Bool, true, false, cond, List, length, set, refl, ap, sym, ◌∙◌, subst, arith, inl, inr}
+use Rattle.std.specs.Prelude.{Some, None, option_map, ◌%◌, ◌==◌}
 use Rattle.std.proofs.lemmas.Bool.{cases_Bool, cases_eq, or_parts, both_ways, false_from_ne_true}
 use Rattle.std.proofs.lemmas.Bool.Decides.{nat_tests}
-use Rattle.std.proofs.lemmas.List.{set-get_or, length-set}
+use Rattle.std.proofs.lemmas.List.{set-get_or}
 use Rattle.sse_base.specs.declared.arrows.Move.{Move}
 use Rattle.sse_base.specs.declared.arrows.Move.TheVariants.{Register, Unregister, Deliver}
 use Rattle.sse_base.specs.declared.arrows.State.{State}
 use Rattle.sse_base.specs.declared.arrows.State.TheVariants.{Unused, Registered, Enabled, Running}
-use Rattle.sse_base.specs.declared.codes.SbiCode.{SbiCode}
 use Rattle.sse_base.specs.declared.codes.SbiCode.TheVariants.{Success, Denied, InvalidState, InvalidParam}
 use Rattle.sse_base.specs.declared.ids.Instance.{Instance}
 use Rattle.sse_base.specs.declared.events.Event.{Event}

@@ -2,7 +2,7 @@
 use Rattle.std.specs.Prelude.{◌≡◌, ℕ, ◌+◌, ◌<◌, ◌≤◌, Bool, true, List, [], ◌∷◌, ◌++◌, length, filter, slice_index_or}
 use Rattle.sse_base.specs.declared.ids.EventId.{EventId}
 use Rattle.sse_base.specs.declared.ids.Instance.{Instance}
-use Rattle.sse_base.specs.declared.ids.Instance.TheVariants.{Local, Global}
+use Rattle.sse_base.specs.declared.ids.Instance.TheVariants.{Local}
 use Rattle.sse_base.specs.Ids.{same_instance, place, may_run_on, FitsHarts}
 use Rattle.sse_base.specs.Events.{Events, event, is_running}
 use Rattle.sse_base.specs.Contexts.{Frame, Stack, bit}

@@ -175,7 +175,7 @@ impl Firmware {
     }
 
     /// Writes words to the attributes of a range, all or none, and notes them where they are taken.
-    #[tactic(auto, using(crate::proofs::Places::stays))]
+    #[tactic(auto, using(crate::proofs::Places::stays, crate::proofs::Taken::over_blank))]
     fn write_range(
         &mut self,
         hart: u8,
@@ -192,8 +192,7 @@ impl Firmware {
         ensures { Answers hart self.old self.new result written.new
             (write_range lo place.at (reach hart self.old) range) }
     {
-        let words = self.memory.read_words(lo, range.count);
-        let values = &words[..range.count as usize];
+        let values = self.memory.words_from(lo, range.count);
         let stack = &mut self.stacks[hart as usize];
         let code = self
             .table
@@ -203,7 +202,7 @@ impl Firmware {
         }
         self.table.set_attrs_at(place, range.base, values);
         stack.write_interrupted(range.base, values, place.at);
-        *written = words;
+        written[..range.count as usize].copy_from_slice(values);
         SbiCode::Success
     }
 

@@ -1,5 +1,5 @@
 -- Goals of `write_range` that the tactics leave open.
-use Rattle.std.proofs.Common.{◌≡◌, ◌∙◌, ◌<◌, length, ap, sym, subst, take, arith}
+use Rattle.std.proofs.Common.{◌≡◌, ◌∙◌, ◌<◌, length, ap, sym, subst, arith}
 use Rattle.sse_base.specs.declared.codes.SbiCode.TheVariants.{Success}
 use Rattle.sse_base.specs.Events.{IsOnBoard}
 use Rattle.sbi_sse.specs.Kept.{Serves}
@@ -17,7 +17,7 @@ invariant_of-self-2 c =
       kept =
           writing_keeps c.self.inside.table c.set_attrs_at.new.self c.self.inside.targets.masks
           c.self.inside.stacks.items c.args.hart c.args.range.base
-          (take c.args.range.count c.read_words-words.result) c.index_mut-stack.result.now
+          c.words_from-values.result.now c.index_mut-stack.result.now
           c.write_interrupted.new.self c.args.place.at c.self.invariant.kept l
           c.index_mut-stack.ensures.value c.write_interrupted.ensures c.set_attrs_at.ensures;
       serves =
@@ -30,7 +30,7 @@ invariant_of-self-2 c =
             )
           ]
           in subst (Serves c.self.inside.targets) (sym c.set_attrs_at.ensures)
-          (write_serves c.args.range.base (take c.args.range.count c.read_words-words.result) c.args.place.at
+          (write_serves c.args.range.base c.words_from-values.result.now c.args.place.at
           c.has.result c.self.inside.targets c.self.inside.table
           (subst (λ (m : Machine). IsOnBoard c.args.place.at m.events) (sym c.self.view_is) c.requires.place.on_board)
           c.self.invariant.kept.each c.self.invariant.serves (sym c.check_write_at-code.ensures ∙ ok));
