@@ -1,9 +1,9 @@
 //! The board that keeps no notes, and how contracts see it.
 
+use crate::housed::Housed;
 use crate::log::Log;
 use crate::made::Made;
 use board_fates::Tally;
-use board_parts::Parts;
 use board_plan::Plan;
 use std::marker::Model;
 
@@ -12,7 +12,7 @@ use std::marker::Model;
 #[derive(Drop)]
 pub struct Brief {
     pub(crate) plan: Plan,
-    pub(crate) parts: Parts,
+    pub(crate) parts: Housed,
     pub(crate) acts: Vec<Made>,
     pub(crate) log: Log,
     pub(crate) tally: Tally,

@@ -8,6 +8,7 @@
 
 mod board;
 mod brief;
+mod housed;
 mod kept;
 mod log;
 mod looks;

@@ -57,7 +57,7 @@ impl Brief {
     pub fn parts(&self) -> &Parts
         ensures { Shows self.now.plan (state_of self.now) result.now }
     {
-        &self.parts
+        self.parts.parts()
     }
 
     /// The firmware.
@@ -65,7 +65,7 @@ impl Brief {
         ensures machine { result.now ≡ (state_of self.now).machine }
         ensures harts { result.now.events.harts ≡ self.now.plan.harts }
     {
-        self.parts.firmware()
+        self.parts.parts().firmware()
     }
 
     /// What is counted of a hart.
@@ -73,7 +73,7 @@ impl Brief {
         requires { hart < self.now.plan.harts }
         ensures { result ≡ counts_of hart (state_of self.now) }
     {
-        self.parts.counts(hart)
+        self.parts.parts().counts(hart)
     }
 
     /// How many of the errors that were made have each fate.
@@ -90,7 +90,7 @@ impl Brief {
             → slice_get (state_of self.now).banks bank ≡ Some x
             → BankStands (bank_plan bank d self.now.plan.recs).origins x.history result.now }
     {
-        self.parts.bank(bank).bank()
+        self.parts.parts().bank(bank).bank()
     }
 
     /// The slot of a bank.
@@ -98,7 +98,7 @@ impl Brief {
         requires { bank < length self.now.plan.banks }
         ensures { (x : BankState) → slice_get (state_of self.now).banks bank ≡ Some x → result.now ≡ x.slot }
     {
-        self.parts.bank(bank).slot()
+        self.parts.parts().bank(bank).slot()
     }
 
     /// The phase that the next step of a bank's drain takes, and the record that it has taken, 0 where it has none.
@@ -108,6 +108,6 @@ impl Brief {
         ensures { (x : BankState) → slice_get (state_of self.now).banks bank ≡ Some x
             → result ≡ option_map (λ d. (d.phase, d.rec)) x.drain }
     {
-        self.parts.bank(bank).drain().phase()
+        self.parts.parts().bank(bank).drain().phase()
     }
 }

@@ -6,6 +6,7 @@ ghost use Rattle.board_core.specs.OwnActs.{IsNew, Paired};
 ghost use Rattle.board_core.specs.Played.{AreListsReports, IsSafe, fresh};
 
 use crate::brief::Brief;
+use crate::housed::Housed;
 use crate::log::Log;
 use crate::made::Made;
 use board_fates::Tally;
@@ -67,11 +68,12 @@ impl Brief {
         ensures safe { IfOk result (λ b. IsSafe b) }
     {
         let parts = Parts::new(alloc, &plan)?;
+        let housed = Housed::new(alloc, parts)?;
         let acts = no_acts(alloc, plan.reporters.as_slice())?;
         let log = Log::new(alloc, most_steps(&plan))?;
         Ok(Brief {
             plan,
-            parts,
+            parts: housed,
             acts,
             log,
             tally: Tally::new(),

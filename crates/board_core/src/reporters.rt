@@ -12,7 +12,7 @@ impl Brief {
     pub fn wants(&self, reporter: u8) -> bool
         ensures { result ≡ wants self.now.plan reporter (state_of self.now) }
     {
-        self.parts.wants(reporter)
+        self.parts.parts().wants(reporter)
     }
 
     /// Whether a reporter's acts are listed in the plan.
@@ -37,7 +37,7 @@ impl Brief {
         if decl.device.is_some() {
             return None;
         }
-        let made = self.parts.made(reporter);
+        let made = self.parts.parts().made(reporter);
         decl.acts.as_slice().get(made as usize).copied()
     }
 
