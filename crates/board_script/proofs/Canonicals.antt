@@ -1,4 +1,4 @@
--- The canonical text of a plan that a script has is read as that plan, also after the move to version 2.
+-- Reading the canonical text of a script's plan gives the plan back, and the same holds once it is moved to version 2.
 use Rattle.std.proofs.Common.{◌≡◌, ℕ, ◌^◌, ◌<◌, ◌≤◌, ◌==◌, ◌⊎◌, inl, inr, Bool, true, false, if◌then◌else◌, List, [], ◌∷◌, map, Result, Ok, refl, sym, ap, ◌∙◌, arith, decimal, subst, option_map}
 use Rattle.std.proofs.lemmas.Bool.{eq-eqb}
 use Rattle.std.proofs.lemmas.Fmt.{decimal_digit}

@@ -52,7 +52,8 @@ countdown id hart n = replicate n (Raise id hart) ++ expired n ∷ []
 
 -- ---- Two devices ----
 
--- one of each in turn, beginning with the first, until one has no more, and then the rest of the other
+-- the items of both lists by turns, the head of the first list before that of the second; when either runs dry, what is
+-- left of the other follows
 abbrev pub in_turn : List Act → List Act → List Act
 in_turn [] ys = ys
 in_turn (x ∷ xs) [] = x ∷ xs

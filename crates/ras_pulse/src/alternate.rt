@@ -15,7 +15,8 @@ pub struct Alternate<A, B> {
 }
 
 impl<A: ErrorDevice, B: ErrorDevice> Alternate<A, B> {
-    /// One act of each in turn, beginning with the first, until one has no more, and then the rest of the other.
+    /// The acts of both by turns: an act of the first, then one of the second, and so on. When either runs dry, what is left
+    /// of the other follows.
     pub fn new(first: A, second: B) -> Alternate<A, B>
         ensures { (⟦<Alternate<A, B> as ErrorDevice>⟧.left result).acts
             ≡ in_turn (A.left first).acts (B.left second).acts }
